@@ -1,0 +1,27 @@
+use mathlib.Core.Path.{_≡_, refl, sym, ap, _∙_}
+use denote.Ref.{now}
+use Rattle.laws.proofs.Reading.{rules-in}
+use borrow.Author.Needs.{needs}
+use Rattle.lookup.proofs.rules_body.Statement.{statement}
+use Rattle.lookup.proofs.rules_body.Tie as tie
+
+companies-requires : tie.Need-companies-requires
+companies-requires c κs = search needs
+
+wide-requires : tie.Need-wide-requires
+wide-requires c κs = search needs
+
+add-body : tie.Need-add-body
+add-body c = search needs
+
+body-requires : tie.Need-body-requires
+body-requires c κs =
+    let w = rules-in _ (c .before .before .before .pre) in
+    rw (c .wide .ensures .0, c .before .companies .ensures) (w .listed, w .inside)
+
+returns : tie.Need-returns
+returns c = rw (c .before .wide .ensures .0, c .before .before .companies .ensures) at (c .body .ensures .0)
+
+pub rules-body-spec : {M : Type 1} → statement M
+rules-body-spec =
+    tie.close (tie.spec companies-requires wide-requires add-body body-requires returns)
