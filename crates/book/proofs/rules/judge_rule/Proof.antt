@@ -1,0 +1,23 @@
+use mathlib.Core.Path.{_≡_, refl, sym, ap, _∙_}
+use Rattle.outline.specs.Judging.{ruleCheck}
+use Rattle.outline.specs.Refusals.{demand}
+use borrow.Author.Needs.{needs}
+use Rattle.book.proofs.rules.judge_rule.Statement.{statement}
+use Rattle.book.proofs.rules.judge_rule.Tie as tie
+
+good-rule-requires : tie.Need-good-rule-requires
+good-rule-requires c κs = search needs
+
+returns : tie.Need-returns
+unfolding ruleCheck demand
+returns c = rw (← c .before .good-rule .ensures, c .if1 .taken)
+
+wide-requires : tie.Need-wide-requires
+wide-requires c κs = search needs
+
+returns-2 : tie.Need-returns-2
+unfolding ruleCheck demand
+returns-2 c = rw (← c .before .before .good-rule .ensures, c .before .if1 .left, c .wide .ensures .0)
+
+pub judge-rule-spec : {M : Type 1} → statement M
+judge-rule-spec = tie.close (tie.spec good-rule-requires returns wide-requires returns-2)
