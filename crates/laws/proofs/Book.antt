@@ -25,19 +25,10 @@ use Rattle.outline.specs.Network.{Network, networkOf, leads, joins, orElse, joi
 use Rattle.outline.specs.Book.{tableOf, stationCount, companyLength, entryPlace, companyCount, linkCount, ruleCount, offsetOf, lengthOf, firstBody, endBefore, bodyOf, faresOf, network}
 use Rattle.outline.specs.Valid.{GoodEntry, Body, LaidOut, ValidBook}
 use Rattle.outline.specs.Judging.{entryOffset, bookCheck, whereGood, companyBody}
-use Rattle.laws.proofs.Tests.{getD-listOf, true-not-false, both-true, either-true, length-listOf}
+use Rattle.laws.proofs.Tests.{getD-listOf, compared, true-not-false, both-true, either-true, length-listOf}
 use Rattle.laws.proofs.Firsts.{refused-not-good}
 use Rattle.laws.proofs.Judging.{same-station, book-good}
 use Rattle.laws.proofs.Order.{GoodLinks, FirstBadIn, FirstBadEntry, bad-entry}
-
--- one of two numbers is the less, or they are equal
-compared : (m n : ℕ) → (m < n) ⊎ ((m ≡ n) ⊎ (n < m))
-compared m n = go (ltb m n) refl (ltb n m) refl
-  where
-    go : (t : Bool) → ltb m n ≡ t → (u : Bool) → ltb n m ≡ u → (m < n) ⊎ ((m ≡ n) ⊎ (n < m))
-    go true p u q = inl (ltb-true _ _ p)
-    go false p true q = inr (inr (ltb-true _ _ q))
-    go false p false q = let l = ltb-false m n p in let g = ltb-false n m q in inr (inl (omega arith))
 
 -- ---- the bodies
 

@@ -1,4 +1,5 @@
 pub mod Tests
+pub mod Lexical
 pub mod Firsts
 pub mod Named
 pub mod Judging

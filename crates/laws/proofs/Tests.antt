@@ -8,9 +8,9 @@ use native.Mathlib.Nat.{not-suc-le-zero, le-of-suc-le-suc}
 use native.Mathlib.Numerals.{add-one}
 use native.Mathlib.Omega.{arith}
 use lib.ListN.{length, getD}
-use lib.Dec.{leb}
+use lib.Dec.{leb, ltb}
 use borrow.Author.Count.{below-more}
-use borrow.Author.Tests.{leb-true, le-leb, lt-leb}
+use borrow.Author.Tests.{leb-true, le-leb, lt-leb, ltb-true, ltb-false}
 use Rattle.outline.specs.Tests.{both, either, choose, within, Within, allBelow, someBelow, listOf}
 
 pub true-not-false : true ≡ false → ⊥
@@ -64,6 +64,15 @@ within-low low x high h = rw (lt-leb low x h)
 
 pub within-high : (low x high : ℕ) → high < x → within low x high ≡ false
 within-high low x high h = fails (λ e. omega (arith, within-true low x high e))
+
+-- one of two numbers is the less, or they are equal
+pub compared : (m n : ℕ) → (m < n) ⊎ ((m ≡ n) ⊎ (n < m))
+compared m n = go (ltb m n) refl (ltb n m) refl
+  where
+    go : (t : Bool) → ltb m n ≡ t → (u : Bool) → ltb n m ≡ u → (m < n) ⊎ ((m ≡ n) ⊎ (n < m))
+    go true p u q = inl (ltb-true _ _ p)
+    go false p true q = inr (inr (ltb-true _ _ q))
+    go false p false q = let l = ltb-false m n p in let g = ltb-false n m q in inr (inl (omega arith))
 
 -- ---- each number below n, and some
 
