@@ -1,16 +1,15 @@
--- The text is read within its length, and the buffer keeps its own.
+use borrow.Author.Needs.{needs}
+use lib.ListN.{length}
 use Prim.Native.Nat.{_≤_, _-_}
 use mathlib.Core.Path.{_≡_}
-use lib.ListN.{length}
-use borrow.Author.Needs.{needs}
-use Rattle.judging.proofs.answers.put_text.Statement.{statement}
-use Rattle.judging.proofs.answers.put_text.Tie as tie
+use Rattle.pricing.proofs.answers.put_rides.Statement.{statement}
+use Rattle.pricing.proofs.answers.put_rides.Tie as tie
 
 abbrev Inv-loop : tie.InvT-loop
-Inv-loop out₀ at text end₀ i₀ out end i = (i ≤ length text) × (length out ≡ length out₀)
+Inv-loop out₀ at n places end₀ i₀ out end i = length out ≡ length out₀
 
 abbrev μ-loop : tie.MeasureT-loop
-μ-loop out₀ at text end₀ i₀ out end i = length text - i
+μ-loop out₀ at n places end₀ i₀ out end i = n - i
 
 loop-holds : tie.Need-loop-holds Inv-loop μ-loop
 loop-holds c = search needs
@@ -21,14 +20,17 @@ same-length c = search needs
 returns : tie.Need-returns Inv-loop μ-loop
 returns c = search needs
 
-shared-slice-read-out : tie.Need-shared-slice-read-out Inv-loop μ-loop
-shared-slice-read-out c = search needs
+cast-r : tie.Need-cast-r Inv-loop μ-loop
+cast-r c = search needs
 
-slice-write-out : tie.Need-slice-write-out Inv-loop μ-loop
-slice-write-out c = search needs
+mul-r : tie.Need-mul-r Inv-loop μ-loop
+mul-r c = search needs
 
-add-end : tie.Need-add-end Inv-loop μ-loop
-add-end c = search needs
+array-copy-out-r : tie.Need-array-copy-out-r Inv-loop μ-loop
+array-copy-out-r c = search needs
+
+put-ride-requires : tie.Need-put-ride-requires Inv-loop μ-loop
+put-ride-requires c κs = search needs
 
 add-i : tie.Need-add-i Inv-loop μ-loop
 add-i c = search needs
@@ -45,8 +47,8 @@ same-length-2 c = search needs
 returns-2 : tie.Need-returns-2 Inv-loop μ-loop
 returns-2 c = search needs
 
-pub put-text-spec : {M : Type 1} → statement M
-put-text-spec =
+pub put-rides-spec : {M : Type 1} → statement M
+put-rides-spec =
     tie.close
     (tie.spec
     Inv-loop
@@ -54,9 +56,10 @@ put-text-spec =
     loop-holds
     same-length
     returns
-    shared-slice-read-out
-    slice-write-out
-    add-end
+    cast-r
+    mul-r
+    array-copy-out-r
+    put-ride-requires
     add-i
     loop-less
     loop-again
