@@ -10,3 +10,5 @@ pub mod Book
 pub mod Routes
 pub mod Given
 pub mod Entries
+pub mod Admissible
+pub mod GivenRoutes
