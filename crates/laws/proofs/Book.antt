@@ -25,20 +25,11 @@ use Rattle.outline.specs.Network.{Network, networkOf, leads, joins, orElse, joi
 use Rattle.outline.specs.Book.{tableOf, stationCount, companyLength, entryPlace, companyCount, linkCount, ruleCount, offsetOf, lengthOf, firstBody, endBefore, bodyOf, faresOf, network}
 use Rattle.outline.specs.Valid.{GoodEntry, Body, LaidOut, ValidBook}
 use Rattle.outline.specs.Judging.{entryOffset, bookCheck, whereGood, companyBody}
-use Rattle.laws.proofs.Tests.{getD-listOf, true-not-false, both-true, either-true, length-listOf}
+use Rattle.laws.proofs.Tests.{getD-listOf, compared, true-not-false, both-true, either-true, length-listOf}
 use Rattle.laws.proofs.Firsts.{refused-not-good}
 use Rattle.laws.proofs.Judging.{same-station, book-good}
 use Rattle.laws.proofs.Reading.{body-length, tables-count}
 use Rattle.laws.proofs.Order.{GoodLinks, FirstBadIn, FirstBadEntry, bad-entry}
-
--- one of two numbers is the less, or they are equal
-compared : (m n : ℕ) → (m < n) ⊎ ((m ≡ n) ⊎ (n < m))
-compared m n = go (ltb m n) refl (ltb n m) refl
-  where
-    go : (t : Bool) → ltb m n ≡ t → (u : Bool) → ltb n m ≡ u → (m < n) ⊎ ((m ≡ n) ⊎ (n < m))
-    go true p u q = inl (ltb-true _ _ p)
-    go false p true q = inr (inr (ltb-true _ _ q))
-    go false p false q = let l = ltb-false m n p in let g = ltb-false n m q in inr (inl (omega arith))
 
 -- ---- the bodies
 
@@ -213,6 +204,11 @@ module _ (N : Network) (x y : Station) where
   pub no-link : (linkBetween N x y ≡ NoLink) ↔ ((k : ℕ) → k < N .links → joins (N .link k) x y ≡ false)
   unfolding linkBetween
   no-link = (joined-none (N .links), none-joined (N .links))
+
+  -- a link that is found is one of the network's and joins the stations
+  pub found-link : (k : ℕ) → linkBetween N x y ≡ ByLink k → (k < N .links) × (joins (N .link k) x y ≡ true)
+  unfolding linkBetween
+  found-link k e = joined-by (N .links) k e
 
   -- where the links are good, link k is found exactly where it joins the stations
   pub by-link : GoodLinks N → (k : ℕ) → (linkBetween N x y ≡ ByLink k) ↔ ((k < N .links) × (joins (N .link k) x y ≡ true))

@@ -1,4 +1,5 @@
 pub mod Tests
+pub mod Lexical
 pub mod Firsts
 pub mod Named
 pub mod Judging
@@ -6,3 +7,8 @@ pub mod Order
 pub mod Reading
 pub mod Joining
 pub mod Book
+pub mod Routes
+pub mod Given
+pub mod Entries
+pub mod Admissible
+pub mod GivenRoutes

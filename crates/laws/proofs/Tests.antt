@@ -1,14 +1,16 @@
 -- Laws of the tests and of lists given by their items.
 use Prim.Native.Nat.{ℕ, zero, suc, _+_, _≤_, _<_}
 use mathlib.Core.Path.{_≡_, refl, sym, ap, _∙_}
+use mathlib.Core.List.{List, [], _∷_}
 use mathlib.Core.Bool.{Bool, true, false}
 use mathlib.Core.Logic.{_⊎_, inl, inr}
 use native.Mathlib.Nat.{not-suc-le-zero, le-of-suc-le-suc}
 use native.Mathlib.Numerals.{add-one}
 use native.Mathlib.Omega.{arith}
 use lib.ListN.{length, getD}
+use lib.Dec.{ltb}
 use borrow.Author.Count.{below-more}
-use borrow.Author.Tests.{leb-true, le-leb, lt-leb}
+use borrow.Author.Tests.{leb-true, le-leb, lt-leb, ltb-true, ltb-false}
 use Rattle.outline.specs.Tests.{both, either, within, Within, allBelow, someBelow, listOf}
 
 pub true-not-false : true ≡ false → ⊥
@@ -38,6 +40,10 @@ unfolding either
 either-true true b e = inl refl
 either-true false b e = inr e
 
+pub either-first : (a b : Bool) → a ≡ true → either a b ≡ true
+unfolding either
+either-first a b e = rw e
+
 pub either-second : (a b : Bool) → b ≡ true → either a b ≡ true
 unfolding either
 either-second true b e = refl
@@ -62,6 +68,15 @@ within-low low x high h = rw (lt-leb low x h)
 
 pub within-high : (low x high : ℕ) → high < x → within low x high ≡ false
 within-high low x high h = fails (λ e. omega (arith, within-true low x high e))
+
+-- one of two numbers is the less, or they are equal
+pub compared : (m n : ℕ) → (m < n) ⊎ ((m ≡ n) ⊎ (n < m))
+compared m n = go (ltb m n) refl (ltb n m) refl
+  where
+    go : (t : Bool) → ltb m n ≡ t → (u : Bool) → ltb n m ≡ u → (m < n) ⊎ ((m ≡ n) ⊎ (n < m))
+    go true p u q = inl (ltb-true _ _ p)
+    go false p true q = inr (inr (ltb-true _ _ q))
+    go false p false q = let l = ltb-false m n p in let g = ltb-false n m q in inr (inl (omega arith))
 
 -- ---- each number below n, and some
 
@@ -130,3 +145,9 @@ pub length-listOf {ℓ} : {A : Type ℓ} (f : ℕ → A) (n : ℕ) → length (l
 unfolding listOf
 length-listOf f zero = refl
 length-listOf f (suc n) = ap suc (length-listOf (λ j. f (suc j)) n)
+
+-- below a list's length the default does not matter
+pub getD-any {ℓ} : {A : Type ℓ} (s : List A) (i : ℕ) (d e : A) → i < length s → getD s i d ≡ getD s i e
+getD-any [] i d e h = absurd (not-suc-le-zero h)
+getD-any (x ∷ s) zero d e h = refl
+getD-any (x ∷ s) (suc i) d e h = getD-any s i d e (le-of-suc-le-suc h)

@@ -6,3 +6,9 @@ pub mod Network
 pub mod Book
 pub mod Valid
 pub mod Judging
+pub mod Lexical
+pub mod Routes
+pub mod Matching
+pub mod Selections
+pub mod Choosing
+pub mod Price

@@ -19,6 +19,10 @@ mostLinks = 128
 abbrev pub mostRules : ℕ
 mostRules = 32
 
+-- "Rides in a route 1 to 4."
+abbrev pub mostRides : ℕ
+mostRides = 4
+
 -- "A fare is 1 to 9,999 yen"
 abbrev pub mostFare : ℕ
 mostFare = 9999

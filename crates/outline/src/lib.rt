@@ -24,6 +24,43 @@ pub enum Entry {
     Sold(u16),
 }
 
+// A ride of a route: a company, the station boarded at and the station alighted at.
+pub struct Leg {
+    pub company: u8,
+    pub boarding: u8,
+    pub alighting: u8,
+}
+
+// A run that a rule pays: its first ride, how many rides it has, and the rule's number.
+pub struct Run {
+    pub first: usize,
+    pub rides: usize,
+    pub rule: u8,
+}
+
+// Whether a rule matches a run: the first test that fails, or what it earns in yen.
+pub enum Reason {
+    WrongRides,
+    WrongCompanies,
+    NotBoarded,
+    NotAlighted,
+    NotPermitted,
+    NotDearer,
+    Earned(u16),
+}
+
+// What a rule earns on a run.
+pub enum Saving {
+    Nothing,
+    Yen(u16),
+}
+
+// The rule that earns most on a run, and what it earns; or that none earns anything.
+pub enum Payer {
+    Nobody,
+    Pays(u8, u16),
+}
+
 // How a ride was paid for: full, or by a rule of this number.
 pub enum Paid {
     Full,

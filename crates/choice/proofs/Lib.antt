@@ -1,0 +1,5 @@
+pub mod Ordered
+pub mod Rules
+pub mod Least
+pub mod Totals
+pub mod Priced
