@@ -1,8 +1,5 @@
-// A fare book judged, taken apart and looked up in.
-pub mod links;
+// A fare book judged, and a company's body handed back.
 pub mod refusal;
-pub mod rules;
-pub mod tables;
 
 use layout::bytes::wide;
 use outline::Judged;

@@ -12,11 +12,10 @@ use borrow.Author.Tests.{ltb-true, ltb-false, leb-true, leb-false}
 use Rattle.outline.specs.declared.Run.{Run}
 use Rattle.outline.specs.declared.Payer.{Payer}
 use Rattle.outline.specs.declared.Payer.the-variants.{Nobody, Pays}
-use Rattle.outline.specs.declared.Saving.{Saving}
-use Rattle.outline.specs.declared.Saving.the-variants.{Nothing, Yen}
+use Rattle.outline.specs.declared.Saving.the-variants.{Yen}
 use Rattle.outline.specs.Tests.{choose}
 use Rattle.outline.specs.Lexical.{LexLe}
-use Rattle.outline.specs.Selections.{Earn, yen, Discounted, Apart, total, numbers, Counts, Best}
+use Rattle.outline.specs.Selections.{Earn, yen, Apart, total, numbers, Counts, Best}
 use Rattle.outline.specs.Choosing.{bestRule, rather, withRun, orRun, bestFrom, bestRuns}
 use Rattle.laws.proofs.Tests.{compared}
 use Rattle.choice.proofs.Ordered.{counts-same, counts-then, counts-only}

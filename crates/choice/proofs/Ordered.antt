@@ -1,6 +1,6 @@
 -- The order of selections: reflexive, transitive, total, and no two selections each count rather than the other.
 -- "Fewest runs, then the least list" is the order of one list of numbers, which begins with the number of runs.
-use Prim.Native.Nat.{ℕ, _<_}
+use Prim.Native.Nat.{ℕ}
 use mathlib.Core.Path.{_≡_, refl, sym, _∙_}
 use mathlib.Core.Logic.{_⊎_, inl, inr, ⊎-elim}
 use mathlib.Core.List.{List, [], _∷_}

@@ -16,7 +16,6 @@ use Rattle.outline.specs.declared.Saving.the-variants.{Nothing, Yen}
 use Rattle.outline.specs.Tests.{choose}
 use Rattle.outline.specs.Selections.{yen}
 use Rattle.outline.specs.Choosing.{orRule, bestRule}
-use Rattle.laws.proofs.Tests.{compared}
 
 pub record Most (f : ℕ → Saving) (n k y : ℕ) : Type 0 where
   pub known : k < n

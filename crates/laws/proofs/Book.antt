@@ -8,7 +8,7 @@ use mathlib.Core.Logic.{_⊎_, inl, inr, ⊎-elim, _↔_}
 use native.Mathlib.Nat.{le-of-suc-le-suc, mul-le-mul-right, not-suc-le-zero, eq-or-lt-of-le}
 use native.Mathlib.Numerals.{add-one}
 use native.Mathlib.Omega.{arith}
-use lib.ListN.{length, length-take, length-drop}
+use lib.ListN.{length}
 use lib.Dec.{ltb}
 use borrow.Author.Tests.{ltb-true, ltb-false, le-ltb, lt-ltb}
 use borrow.Author.Count.{below-more}
@@ -28,6 +28,7 @@ use Rattle.outline.specs.Judging.{entryOffset, bookCheck, whereGood, companyBod
 use Rattle.laws.proofs.Tests.{getD-listOf, compared, true-not-false, both-true, either-true, length-listOf}
 use Rattle.laws.proofs.Firsts.{refused-not-good}
 use Rattle.laws.proofs.Judging.{same-station, book-good}
+use Rattle.laws.proofs.Reading.{body-length, tables-count}
 use Rattle.laws.proofs.Order.{GoodLinks, FirstBadIn, FirstBadEntry, bad-entry}
 
 -- ---- the bodies
@@ -75,10 +76,6 @@ later-body b laid c (suc d) l h =
 
 -- ---- a company's body
 
-pub length-body : (b : List ℕ) (e : ℕ) → Body b e → length (bodyOf b e) ≡ lengthOf b e
-unfolding bodyOf
-length-body b e h = simp (length-take, length-drop) (let i = h .inside in omega arith)
-
 -- in a valid book it is the part that the contents tell, and it is not empty
 pub company-body : (b : List ℕ) (c : ℕ) → ValidBook b → c < companyCount b → companyBody b c ≡ bodyOf b c
 unfolding companyBody whereGood choose
@@ -87,7 +84,7 @@ company-body b c v h = rw (book-good b .1 v, lt-ltb _ _ h)
 pub company-body-length : (b : List ℕ) (c : ℕ) → ValidBook b → c < companyCount b → 0 < length (bodyOf b c)
 company-body-length b c v h =
     let w = v .laidOut .companies c h in
-    omega (arith, length-body b c (w .body), w .long)
+    omega (arith, body-length b c (w .body .inside), w .long)
 
 -- "where the book is refused or has no such company, the part is empty, and only then"
 pub company-body-empty : (b : List ℕ) (c : ℕ) → (companyBody b c ≡ []) ↔ ((bookCheck b ≡ Good → ⊥) ⊎ (companyCount b ≤ c))
@@ -261,11 +258,7 @@ first-in-table t i j k l f hl bad = rows (compared k i)
     rows (inr (inl q)) = columns q (compared l j)
     rows (inr (inr below)) = later-row (t .stations) i j k l below (f .column)
 
--- the tables that the book says: as many as companies, each with its body's stations
-tables-count : (b : List ℕ) → length (faresOf b .tables) ≡ companyCount b
-unfolding faresOf
-tables-count b = length-listOf _ _
-
+-- each table that the book says has its body's stations
 table-stations : (b : List ℕ) (c : ℕ) → c < length (faresOf b .tables) → tableAt (faresOf b) c .stations ≡ stationCount (bodyOf b c)
 unfolding faresOf tableOf
 table-stations b c h =

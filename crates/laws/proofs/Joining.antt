@@ -1,12 +1,11 @@
 -- Laws of the link between two stations.
 use Prim.Native.Nat.{ℕ, zero, suc, _+_, _<_}
-use mathlib.Core.Path.{_≡_, refl, sym, ap, _∙_}
-use mathlib.Core.Bool.{Bool, true, false}
+use mathlib.Core.Path.{_≡_}
+use mathlib.Core.Bool.{true, false}
 use mathlib.Core.Logic.{⊎-elim}
 use native.Mathlib.Nat.{not-suc-le-zero, le-of-suc-le-suc, eq-or-lt-of-le}
 use native.Mathlib.Numerals.{add-one}
 use Rattle.outline.specs.declared.Station.{Station}
-use Rattle.outline.specs.declared.Joined.{Joined}
 use Rattle.outline.specs.declared.Joined.the-variants.{ByLink, NoLink}
 use Rattle.outline.specs.Tests.{choose}
 use Rattle.outline.specs.Network.{Network, joins, orElse, joinedBelow}

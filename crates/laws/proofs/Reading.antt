@@ -7,9 +7,9 @@ use native.Mathlib.Omega.{arith}
 use lib.ListN.{length, getD, take, drop, length-take, length-drop}
 use lib.Seq.{getD-drop, getD-take}
 use Rattle.outline.specs.declared.Entry.the-variants.{NotSold, Sold}
-use Rattle.outline.specs.Tests.{listOf, part}
+use Rattle.outline.specs.Tests.{part}
 use Rattle.outline.specs.Fares.{Table, Rule, fareAt, tableAt, noTable, noLink, noRule}
-use Rattle.outline.specs.Network.{Network, networkOf, entryOf}
+use Rattle.outline.specs.Network.{networkOf, entryOf}
 use Rattle.outline.specs.Book.{wordAt, companyCount, linkCount, ruleCount, offsetOf, lengthOf, linksEntry, rulesEntry, firstBody, endBefore, bodyOf, companyLength, stationCount, words, tableOf, entryPlace, linkLength, linkOf, ruleLength, ruleOf, faresOf, network}
 use Rattle.outline.specs.Valid.{LaidOut}
 use Rattle.outline.specs.Judging.{tableCheck, entryOffset}

@@ -10,7 +10,7 @@ ghost use Prim.Native.Nat.{_+_, _*_, _≤_, _<_};
 ghost use lib.ListN.{length};
 ghost use Rattle.outline.specs.Tests.{part};
 ghost use Rattle.outline.specs.Fares.{fareAt};
-ghost use Rattle.outline.specs.Book.{headerLength, companyCount, linkCount, ruleCount, offsetOf, lengthOf, rulesEntry, endBefore, bodyOf, stationCount, companyLength, entryPlace, tableOf, linkLength, linkOf, ruleLength, ruleOf};
+ghost use Rattle.outline.specs.Book.{companyCount, linkCount, ruleCount, offsetOf, lengthOf, rulesEntry, endBefore, bodyOf, stationCount, companyLength, entryPlace, tableOf, linkLength, linkOf, ruleLength, ruleOf};
 ghost use Rattle.outline.specs.Valid.{Header};
 ghost use Rattle.layout.specs.Bodies.{Listed, CompanySized};
 

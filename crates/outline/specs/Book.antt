@@ -1,7 +1,7 @@
 -- Document 01, "The fare book": its layout, and what it says. Offsets and sizes stand here and nowhere else.
 use Prim.Native.Nat.{ℕ, zero, suc, _+_, _*_}
 use mathlib.Core.List.{List, [], _∷_}
-use lib.ListN.{length, getD, take, drop}
+use lib.ListN.{getD, drop}
 use Rattle.outline.specs.declared.Station.{Station}
 use Rattle.outline.specs.declared.Link.{Link}
 use Rattle.outline.specs.Tests.{listOf, part}

@@ -1,11 +1,10 @@
 -- Document 01, "What is refused, and when": the refusals of a book, in the outline's order.
 use Prim.Native.Nat.{ℕ, _+_, _-_, _*_}
-use mathlib.Core.Bool.{Bool, true, false, not}
+use mathlib.Core.Bool.{Bool, not}
 use mathlib.Core.List.{List, []}
 use lib.ListN.{length, getD}
 use lib.Dec.{leb, ltb, eqb}
 use Rattle.outline.specs.declared.Link.{Link}
-use Rattle.outline.specs.declared.Refusal.{Refusal}
 use Rattle.outline.specs.declared.Refusal.the-variants.{WrongLength, UnknownLayout, OutsideLimits, BadContents, BadStations, BadEntry, BadLink, BadRule}
 use Rattle.outline.specs.declared.Judged.{Judged}
 use Rattle.outline.specs.declared.Judged.the-variants.{Good, Refused}

@@ -10,7 +10,7 @@ use Rattle.outline.specs.declared.Joined.the-variants.{ByLink, NoLink}
 use Rattle.outline.specs.declared.Entry.{Entry}
 use Rattle.outline.specs.declared.Entry.the-variants.{NotSold, Sold}
 use Rattle.outline.specs.Tests.{both, either, choose}
-use Rattle.outline.specs.Fares.{Table, Rule, Fares, fareAt, tableAt, noLink, noRule}
+use Rattle.outline.specs.Fares.{Rule, Fares, fareAt, tableAt, noLink, noRule}
 
 pub record Network : Type 0 where
   pub companies : ℕ

@@ -1,9 +1,9 @@
+-- `book::company_body` meets its contract.
 use Rattle.outline.specs.Judging.{companyOffset}
 use native.Mathlib.Omega.{arith}
-use mathlib.Core.Path.{_≡_, refl, sym, ap, _∙_}
-use Prim.Native.Nat.{ℕ, _+_, _*_, _-_, _≤_, _<_}
-use denote.Ref.{now}
-use borrow.Author.Tests.{le-ltb, lt-ltb, le-leb, lt-leb, eq-eqb, ne-eqb}
+use mathlib.Core.Path.{refl, sym, _∙_}
+use Prim.Native.Nat.{_-_}
+use borrow.Author.Tests.{le-ltb, lt-ltb}
 use Rattle.outline.specs.Tests.{choose}
 use Rattle.outline.specs.Judging.{companyBody, whereGood}
 use Rattle.laws.proofs.Reading.{company-in}

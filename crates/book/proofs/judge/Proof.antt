@@ -1,4 +1,5 @@
-use mathlib.Core.Path.{_≡_, refl, sym, ap, _∙_}
+-- `book::judge` meets its contract.
+use mathlib.Core.Path.{sym, _∙_}
 use Rattle.laws.proofs.Firsts.{then-next, then-stops}
 use Rattle.laws.proofs.Judging.{header-good, contents-good}
 use Rattle.outline.specs.Judging.{bookCheck}

@@ -1,5 +1,5 @@
-use mathlib.Core.Path.{_≡_, refl, sym, ap, _∙_}
-use Rattle.laws.proofs.Reading.{network-links}
+-- `contents::judge` meets its contract.
+use mathlib.Core.Path.{sym, _∙_}
 use Rattle.laws.proofs.Firsts.{then-next, then-stops}
 use Rattle.outline.specs.Judging.{contentsCheck}
 use borrow.Author.Needs.{needs}

@@ -1,13 +1,13 @@
+-- `contents::judge_companies` meets its contract.
 use borrow.Author.Needs.{needs}
 use Rattle.laws.proofs.Firsts.{first-more, first-stops, first-ends}
 use native.Mathlib.Omega.{arith}
-use mathlib.Core.Path.{_≡_, refl, sym, ap, _∙_}
-use Prim.Native.Nat.{ℕ, _+_, _*_, _-_, _≤_, _<_}
+use mathlib.Core.Path.{_≡_, refl, sym, _∙_}
+use Prim.Native.Nat.{_-_, _≤_}
 use Rattle.outline.specs.Refusals.{firstBelow}
 use Rattle.outline.specs.Book.{companyCount}
 use Rattle.outline.specs.Judging.{companyCheck}
 use Rattle.outline.specs.declared.Judged.the-variants.{Good}
-use lib.ListN.{length}
 use Rattle.contents.proofs.judge_companies.Statement.{statement}
 use Rattle.contents.proofs.judge_companies.Tie as tie
 

@@ -1,3 +1,4 @@
+-- `contents::judge_end` meets its contract.
 use borrow.Author.Tests.{le-ltb, lt-ltb, le-leb, lt-leb, eq-eqb, ne-eqb}
 use Rattle.outline.specs.Refusals.{demand}
 use Rattle.outline.specs.Judging.{endCheck}

@@ -1,3 +1,4 @@
+-- `layout::body` meets its contract.
 use native.Mathlib.Omega.{arith}
 use Rattle.laws.proofs.Reading.{lent-part}
 use Rattle.outline.specs.Book.{bodyOf}

@@ -1,6 +1,7 @@
+-- `layout::end_before` meets its contract.
 use denote.Ref.{now}
 use native.Mathlib.Omega.{arith}
-use mathlib.Core.Path.{_≡_, refl, sym, ap, _∙_}
+use mathlib.Core.Path.{sym, ap, _∙_}
 use Prim.Native.Nat.{ℕ, _+_, _*_, _-_}
 use Rattle.laws.proofs.Reading.{end-first, end-after}
 use borrow.Author.Needs.{needs}

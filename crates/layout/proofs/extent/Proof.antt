@@ -1,5 +1,5 @@
-use native.Mathlib.Omega.{arith}
-use Rattle.outline.specs.Book.{offsetOf, lengthOf}
+-- `layout::extent` meets its contract.
+use Rattle.outline.specs.Book.{lengthOf}
 use borrow.Author.Needs.{needs}
 use Rattle.layout.proofs.extent.Statement.{statement}
 use Rattle.layout.proofs.extent.Tie as tie

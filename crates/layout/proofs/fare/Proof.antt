@@ -1,6 +1,7 @@
+-- `layout::fare` meets its contract.
 use native.Mathlib.Omega.{arith}
-use mathlib.Core.Path.{_≡_, refl, sym, ap, _∙_}
-use Prim.Native.Nat.{ℕ, _+_, _*_, _-_}
+use mathlib.Core.Path.{sym, ap, _∙_}
+use Prim.Native.Nat.{_-_}
 use Rattle.laws.proofs.Reading.{cell, fare-at}
 use Rattle.outline.specs.Book.{wordAt}
 use denote.Ref.{now}

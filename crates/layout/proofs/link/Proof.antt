@@ -1,6 +1,7 @@
+-- `layout::link` meets its contract.
 use native.Mathlib.Omega.{arith}
-use mathlib.Core.Path.{_≡_, refl, sym, ap, _∙_}
-use Prim.Native.Nat.{ℕ, _+_, _*_, _-_}
+use mathlib.Core.Path.{_≡_}
+use Prim.Native.Nat.{_+_, _*_, _-_}
 use Rattle.outline.specs.Book.{linkOf}
 use borrow.Author.Needs.{needs}
 use Rattle.layout.proofs.link.Statement.{statement}

@@ -1,5 +1,5 @@
-use native.Mathlib.Omega.{arith}
-use Rattle.outline.specs.Book.{offsetOf, lengthOf}
+-- `layout::offset` meets its contract.
+use Rattle.outline.specs.Book.{offsetOf}
 use borrow.Author.Needs.{needs}
 use Rattle.layout.proofs.offset.Statement.{statement}
 use Rattle.layout.proofs.offset.Tie as tie

@@ -1,5 +1,6 @@
+-- `layout::rule_part` meets its contract.
 use Rattle.laws.proofs.Reading.{lent-part}
-use mathlib.Core.Path.{_≡_, refl, sym, ap, _∙_}
+use mathlib.Core.Path.{refl, ap}
 use Prim.Native.Nat.{ℕ, _+_, _*_, _-_}
 use borrow.Author.Needs.{needs}
 use Rattle.layout.proofs.rule_part.Statement.{statement}

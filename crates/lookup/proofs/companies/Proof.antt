@@ -1,4 +1,5 @@
-use mathlib.Core.Path.{_≡_, refl, sym, ap, _∙_}
+-- `lookup::companies` meets its contract.
+use mathlib.Core.Path.{sym, _∙_}
 use Rattle.laws.proofs.Reading.{network-companies}
 use borrow.Author.Needs.{needs}
 use Rattle.lookup.proofs.companies.Statement.{statement}

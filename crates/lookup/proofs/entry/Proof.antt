@@ -1,9 +1,9 @@
-use native.Mathlib.Omega.{arith}
-use mathlib.Core.Path.{_≡_, refl, sym, ap, _∙_}
+-- `lookup::entry` meets its contract.
+use mathlib.Core.Path.{sym, ap, _∙_}
 use denote.Ref.{now}
-use Prim.Native.Nat.{ℕ, _+_, _*_, _-_, _≤_, _<_}
+use Prim.Native.Nat.{ℕ, _-_}
 use Rattle.laws.proofs.Reading.{known-company, company-in, company-long, network-stations, network-entry}
-use Rattle.outline.specs.Book.{bodyOf, tableOf, stationCount}
+use Rattle.outline.specs.Book.{tableOf}
 use Rattle.outline.specs.Fares.{fareAt}
 use Rattle.outline.specs.Network.{entryOf}
 use mathlib.Core.List.{List}

@@ -1,5 +1,4 @@
-use mathlib.Core.Path.{_≡_, refl, sym, ap, _∙_}
-use Rattle.outline.specs.Network.{entryOf}
+-- `lookup::entry_of` meets its contract.
 use Rattle.laws.proofs.Reading.{entry-none, entry-sold}
 use Rattle.lookup.proofs.entry_of.Statement.{statement}
 use Rattle.lookup.proofs.entry_of.Tie as tie

@@ -1,4 +1,4 @@
-use mathlib.Core.Path.{_≡_, refl, sym, ap, _∙_}
+-- `lookup::in_map` meets its contract.
 use Rattle.outline.specs.Fares.{inMap}
 use borrow.Author.Needs.{needs}
 use Rattle.lookup.proofs.in_map.Statement.{statement}

@@ -1,4 +1,4 @@
-use mathlib.Core.Path.{_≡_, refl, sym, ap, _∙_}
+-- `lookup::joined_by` meets its contract.
 use Rattle.outline.specs.Tests.{either}
 use Rattle.outline.specs.Network.{joins}
 use borrow.Author.Needs.{needs}

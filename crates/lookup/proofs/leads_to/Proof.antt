@@ -1,4 +1,4 @@
-use mathlib.Core.Path.{_≡_, refl, sym, ap, _∙_}
+-- `lookup::leads_to` meets its contract.
 use Rattle.outline.specs.Tests.{both}
 use Rattle.outline.specs.Network.{leads}
 use borrow.Author.Needs.{needs}

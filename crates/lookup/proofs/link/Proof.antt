@@ -1,7 +1,6 @@
-use mathlib.Core.Path.{_≡_, refl, sym, ap, _∙_}
-use denote.Ref.{now}
+-- `lookup::link` meets its contract.
+use mathlib.Core.Path.{_∙_}
 use Rattle.laws.proofs.Reading.{links-in, link-fits, link-read}
-use Rattle.outline.specs.Book.{linksEntry}
 use borrow.Author.Needs.{needs}
 use Rattle.lookup.proofs.link.Statement.{statement}
 use Rattle.lookup.proofs.link.Tie as tie

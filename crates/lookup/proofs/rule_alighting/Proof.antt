@@ -1,4 +1,5 @@
-use mathlib.Core.Path.{_≡_, refl, sym, ap, _∙_}
+-- `lookup::rule_alighting` meets its contract.
+use mathlib.Core.Path.{_∙_}
 use Rattle.laws.proofs.Reading.{rule-fits, rule-read}
 use Rattle.outline.specs.Fares.{Rule}
 use borrow.Author.Needs.{needs}

@@ -1,5 +1,4 @@
-use mathlib.Core.Path.{_≡_, refl, sym, ap, _∙_}
-use denote.Ref.{now}
+-- `lookup::rules_body` meets its contract.
 use Rattle.laws.proofs.Reading.{rules-in}
 use borrow.Author.Needs.{needs}
 use Rattle.lookup.proofs.rules_body.Statement.{statement}

@@ -1,5 +1,5 @@
-use mathlib.Core.Path.{_≡_, refl, sym, ap, _∙_}
-use borrow.Author.Tests.{le-ltb, lt-ltb, le-leb, lt-leb, eq-eqb, ne-eqb}
+-- `lookup::same_station` meets its contract.
+use borrow.Author.Tests.{eq-eqb, ne-eqb}
 use Rattle.outline.specs.Tests.{both}
 use Rattle.outline.specs.Network.{sameStation}
 use Rattle.lookup.proofs.same_station.Statement.{statement}

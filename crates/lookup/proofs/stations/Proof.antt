@@ -1,6 +1,5 @@
-use native.Mathlib.Omega.{arith}
-use mathlib.Core.Path.{_≡_, refl, sym, ap, _∙_}
-use denote.Ref.{now}
+-- `lookup::stations` meets its contract.
+use mathlib.Core.Path.{sym, _∙_}
 use Rattle.laws.proofs.Reading.{known-company, company-in, company-starts, stations-at, network-stations}
 use borrow.Author.Needs.{needs}
 use Rattle.lookup.proofs.stations.Statement.{statement}

@@ -1,4 +1,4 @@
-use native.Mathlib.Omega.{arith}
+-- `layout::bytes::word` meets its contract.
 use Rattle.outline.specs.Book.{wordAt}
 use borrow.Author.Needs.{needs}
 use Rattle.layout.proofs.bytes.word.Statement.{statement}
