@@ -12,3 +12,5 @@ pub mod Matching
 pub mod Selections
 pub mod Choosing
 pub mod Price
+pub mod Questions
+pub mod Listing

@@ -97,6 +97,13 @@ pub enum Judged {
     Refused(Refusal),
 }
 
+// A question: from which station, to which, and how many rides at most.
+pub struct Question {
+    pub from: Station,
+    pub to: Station,
+    pub limit: u8,
+}
+
 // What a price or a question is answered with: the fare, the number of rides and four places for rides.
 pub struct Answer {
     pub judged: Judged,

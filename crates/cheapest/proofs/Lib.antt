@@ -1,0 +1,4 @@
+pub mod Earlier
+pub mod Lists
+pub mod Onward
+pub mod Twin
