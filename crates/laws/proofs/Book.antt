@@ -205,6 +205,11 @@ module _ (N : Network) (x y : Station) where
   unfolding linkBetween
   no-link = (joined-none (N .links), none-joined (N .links))
 
+  -- a link that is found is one of the network's and joins the stations
+  pub found-link : (k : ℕ) → linkBetween N x y ≡ ByLink k → (k < N .links) × (joins (N .link k) x y ≡ true)
+  unfolding linkBetween
+  found-link k e = joined-by (N .links) k e
+
   -- where the links are good, link k is found exactly where it joins the stations
   pub by-link : GoodLinks N → (k : ℕ) → (linkBetween N x y ≡ ByLink k) ↔ ((k < N .links) × (joins (N .link k) x y ≡ true))
   unfolding linkBetween

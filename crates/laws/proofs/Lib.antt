@@ -7,3 +7,5 @@ pub mod Order
 pub mod Reading
 pub mod Joining
 pub mod Book
+pub mod Routes
+pub mod Given

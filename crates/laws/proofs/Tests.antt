@@ -140,3 +140,9 @@ pub length-listOf {ℓ} : {A : Type ℓ} (f : ℕ → A) (n : ℕ) → length (l
 unfolding listOf
 length-listOf f zero = refl
 length-listOf f (suc n) = ap suc (length-listOf (λ j. f (suc j)) n)
+
+-- below a list's length the default does not matter
+pub getD-any {ℓ} : {A : Type ℓ} (s : List A) (i : ℕ) (d e : A) → i < length s → getD s i d ≡ getD s i e
+getD-any [] i d e h = absurd (not-suc-le-zero h)
+getD-any (x ∷ s) zero d e h = refl
+getD-any (x ∷ s) (suc i) d e h = getD-any s i d e (le-of-suc-le-suc h)

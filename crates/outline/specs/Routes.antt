@@ -3,7 +3,7 @@ use Prim.Native.Nat.{ℕ, _+_, _-_, _*_, _/_, _<_}
 use mathlib.Core.Path.{_≡_}
 use mathlib.Core.Bool.{Bool, true, false, not}
 use mathlib.Core.List.{List, [], _∷_}
-use lib.ListN.{length, getD}
+use lib.ListN.{length, getD, take}
 use lib.Dec.{ltb, eqb}
 use Rattle.outline.specs.declared.Station.{Station}
 use Rattle.outline.specs.declared.Leg.{Leg}
@@ -69,6 +69,10 @@ pub record Admissible (N : Network) (route : List Leg) : Type 0 where
   pub changes : (i : ℕ) → i + 1 < length route → Change N (alightedAt (rideAt route i)) (boardedAt (rideAt route (i + 1)))
   pub once : Distinct (stationsOf route)
 
+-- the link that is walked after ride i
+unfoldable pub linkAfter : Network → List Leg → ℕ → Joined
+linkAfter N route i = linkBetween N (alightedAt (rideAt route i)) (boardedAt (rideAt route (i + 1)))
+
 -- "A given route is 3 bytes per ride: company, boarding, alighting station."
 unfoldable pub bytesOf : List Leg → List ℕ
 bytesOf [] = []
@@ -95,33 +99,30 @@ exists N l =
     (both (not (eqb (l .boarding) (l .alighting)))
     (isSold (entryFor N l)))))
 
--- "can't be reached by a link from the ride before"
 unfoldable pub isLink : Joined → Bool
 isLink (ByLink k) = true
 isLink NoLink = false
 
-unfoldable pub linkAfter : Network → List Leg → ℕ → Joined
-linkAfter N route i = linkBetween N (alightedAt (rideAt route i)) (boardedAt (rideAt route (i + 1)))
-
-unfoldable pub reached : Network → List Leg → ℕ → Bool
-reached N route i = either (eqb i 0) (isLink (linkAfter N route (i - 1)))
+-- "can't be reached by a link from the ride before"
+unfoldable pub reached : Network → List Leg → Leg → Bool
+reached N before l = either (eqb (length before) 0) (isLink (linkBetween N (alightedAt (rideAt before (length before - 1))) (boardedAt l)))
 
 -- "or brings a station already met"
 unfoldable pub met : Leg → Station → Bool
-met l x = either (sameStation (boardedAt l) x) (sameStation (alightedAt l) x)
+met earlier x = either (sameStation (boardedAt earlier) x) (sameStation (alightedAt earlier) x)
 
 unfoldable pub meets : Leg → Leg → Bool
 meets earlier l = either (met earlier (boardedAt l)) (met earlier (alightedAt l))
 
-unfoldable pub repeats : List Leg → ℕ → Bool
-repeats route i = someBelow (λ j. meets (rideAt route j) (rideAt route i)) i
+unfoldable pub repeats : List Leg → Leg → Bool
+repeats before l = someBelow (λ j. meets (rideAt before j) l) (length before)
+
+-- a ride that is not bad, after those before it
+unfoldable pub goodNext : Network → List Leg → Leg → Bool
+goodNext N before l = both (exists N l) (both (reached N before l) (not (repeats before l)))
 
 unfoldable pub rideCheck : Network → List Leg → ℕ → Judged
-rideCheck N route i =
-    demand (exists N (rideAt route i)) (BadRide i)
-    (demand (reached N route i) (BadRide i)
-    (demand (not (repeats route i)) (BadRide i)
-    Good))
+rideCheck N route i = demand (goodNext N (take i route) (rideAt route i)) (BadRide i) Good
 
 -- "a length that isn't 3, 6, 9 or 12 is place 0"
 unfoldable pub goodLength : ℕ → Bool
