@@ -10,7 +10,9 @@ use lib.ListN.{length, getD, take, length-append, length-take, List·getD-append
 use lib.Seq.{take-suc, take-take, getD-take, take-append-seam, take-append-le, getD-append-seam, length-take-le}
 use Rattle.outline.specs.declared.Leg.{Leg}
 use Rattle.outline.specs.Network.{Network}
-use Rattle.outline.specs.Routes.{noRide, rideAt, goodNext}
+use Rattle.outline.specs.Numbers.{mostRides}
+use Rattle.outline.specs.Tests.{Within}
+use Rattle.outline.specs.Routes.{noRide, rideAt, goodNext, Admissible}
 
 -- each ride is good after those before it
 abbrev pub AllGood : Network → List Leg → Type 0
@@ -28,7 +30,7 @@ good-more N p l good next i h =
     here e = rw (e, take-append-seam p (l ∷ []), getD-append-seam p l [] noRide) next
 
     before : i < length p → goodNext N (take i (p ++ (l ∷ []))) (rideAt (p ++ (l ∷ [])) i) ≡ true
-    before b = let few : i ≤ length p = omega arith in rw (take-append-le i p (l ∷ []) few, List·getD-append p (l ∷ []) i noRide b) (good i b)
+    before b = let few : i ≤ length p = omega arith in rw (take-append-le i p (l ∷ []) few, List·getD-append p (l ∷ []) noRide i b) (good i b)
 
 pub good-front : (N : Network) (route : List Leg) (n : ℕ) → n ≤ length route → AllGood N route → AllGood N (take n route)
 good-front N route n few good i h =
@@ -39,3 +41,7 @@ good-front N route n few good i h =
 
 pub one-more : (route : List Leg) (n : ℕ) → n < length route → take n route ++ (rideAt route n ∷ []) ≡ take (suc n) route
 one-more route n h = sym (take-suc route n noRide h)
+
+-- a route is admissible exactly where it has 1 to 4 rides and each is good after those before it
+pub admissible-good : (N : Network) (route : List Leg) → Admissible N route ↔ (Within 1 (length route) mostRides × AllGood N route)
+admissible-good N route = ?

@@ -1,13 +1,11 @@
 -- The rides of a route as it is held, and one more ride.
-use Prim.Native.Nat.{ℕ, _+_, _-_, _≤_, _<_}
-use mathlib.Core.Path.{_≡_, refl, sym, ap, subst, _∙_}
-use mathlib.Core.Bool.{Bool, true, false, not}
+use Prim.Native.Nat.{ℕ, _+_, _-_, _<_}
+use mathlib.Core.Path.{_≡_, refl, sym, ap, _∙_}
+use mathlib.Core.Bool.{Bool, true, false}
 use mathlib.Core.List.{List, [], _∷_, _++_}
-use mathlib.Core.Logic.{⊎-elim}
 use native.Mathlib.Numerals.{add-one}
 use native.Mathlib.Omega.{arith}
 use lib.ListN.{length, getD, take, set, length-set}
-use lib.Dec.{eqb}
 use lib.Seq.{length-take-le, getD-take, getD-set-same, getD-set-other, take-suc-set}
 use borrow.Author.Count.{below-more}
 use borrow.Author.Tests.{eq-eqb, ne-eqb, not-true}
@@ -20,7 +18,6 @@ use Rattle.outline.specs.Tests.{both, either, choose}
 use Rattle.outline.specs.Network.{Network, linkBetween}
 use Rattle.outline.specs.Routes.{boardedAt, alightedAt, entryFor, Exists, noRide, rideAt, isSold, exists, isLink, linkAfter, reached, repeats, goodNext}
 use Rattle.routes.specs.declared.Route.{Route}
-use Rattle.routes.specs.declared.Step.{Step}
 use Rattle.routes.specs.Held.{ridesOf, Sized, Held, pushed, soldFor, Reached, Extended}
 use Rattle.laws.proofs.Tests.{true-not-false, fails, both-true, getD-any}
 use Rattle.laws.proofs.Routes.{exists-is}

@@ -1,24 +1,21 @@
 -- One turn of the loop that judges a given route, ride by ride.
 use Prim.Native.Nat.{ℕ, _+_, _≤_, _<_}
-use mathlib.Core.Path.{_≡_, refl, sym, ap, _∙_}
-use mathlib.Core.Bool.{Bool, true, false}
+use mathlib.Core.Path.{_≡_, sym, ap, _∙_}
+use mathlib.Core.Bool.{true, false}
 use mathlib.Core.List.{List, [], _∷_, _++_}
 use native.Mathlib.Numerals.{add-one}
-use native.Mathlib.Omega.{arith}
-use lib.ListN.{length, getD, take}
+use lib.ListN.{length, take}
 use lib.Seq.{length-take-le, take-suc, take-length}
 use Rattle.outline.specs.declared.Leg.{Leg}
 use Rattle.outline.specs.declared.Refusal.the-variants.{BadRide}
-use Rattle.outline.specs.declared.Judged.{Judged}
 use Rattle.outline.specs.declared.Judged.the-variants.{Good, Refused}
-use Rattle.outline.specs.Refusals.{demand, firstBelow}
+use Rattle.outline.specs.Refusals.{firstBelow}
 use Rattle.outline.specs.Network.{Network}
 use Rattle.outline.specs.Routes.{noRide, rideAt, goodNext, rideCheck, goodLength, routeOf, routeCheck}
 use Rattle.routes.specs.declared.Route.{Route}
 use Rattle.routes.specs.declared.Step.{Step}
-use Rattle.routes.specs.declared.given.Given.{Given}
 use Rattle.routes.specs.Held.{ridesOf, Held, Extended, Read}
-use Rattle.laws.proofs.Firsts.{refused-not-good, demand-holds, demand-fails, first-more, first-is}
+use Rattle.laws.proofs.Firsts.{refused-not-good, demand-holds, demand-fails, first-is}
 use Rattle.routes.proofs.Rides.{rides-length}
 
 module _ (N : Network) (R : List Leg) (r : Route) (i : ℕ) (held : Held N r) (is : ridesOf r ≡ take i R) where

@@ -13,7 +13,7 @@ use Rattle.outline.specs.declared.Judged.the-variants.{Good}
 use Rattle.outline.specs.Numbers.{mostRides}
 use Rattle.outline.specs.Tests.{choose}
 use Rattle.outline.specs.Network.{Network, linkBetween}
-use Rattle.outline.specs.Routes.{entryFor, Exists, exists, noRide, rideAt, boardedAt, alightedAt, linkAfter, isLink, reached, goodNext, routeOf, routeCheck}
+use Rattle.outline.specs.Routes.{entryFor, Exists, exists, rideAt, boardedAt, alightedAt, linkAfter, isLink, reached, goodNext, routeOf, routeCheck}
 use Rattle.routes.specs.declared.Route.{Route}
 use Rattle.routes.specs.declared.Step.{Step}
 use Rattle.routes.specs.declared.given.Given.{Given}

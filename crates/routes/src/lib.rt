@@ -7,13 +7,14 @@ use outline::Joined;
 use outline::Leg;
 use outline::Station;
 ghost use mathlib.Core.Path.{_≡_};
-ghost use Prim.Native.Nat.{ℕ, _<_};
+ghost use Prim.Native.Nat.{_<_};
 ghost use mathlib.Core.Bool.{true};
-ghost use mathlib.Core.List.{[], _∷_, _++_};
+ghost use mathlib.Core.List.{[]};
 ghost use Rattle.outline.specs.Book.{network};
 ghost use Rattle.outline.specs.Valid.{LaidOut};
 ghost use Rattle.outline.specs.Network.{Network};
-ghost use Rattle.outline.specs.Routes.{boardedAt, alightedAt, met, meets, repeats, goodNext};
+ghost use Rattle.outline.specs.declared.Joined.the-variants.{ByLink};
+ghost use Rattle.outline.specs.Routes.{boardedAt, alightedAt, met, meets, repeats};
 ghost use Rattle.routes.specs.Held.{ridesOf, Sized, Held, pushed, soldFor, Reached, Extended};
 
 pub const MOST_RIDES: usize = 4;
@@ -157,9 +158,10 @@ impl Route {
         lookup::link_between(book, alighted(last), boarded(l))
     }
 
-    // This route with one more ride, where that ride is good.
-    pub fn then(self, book: &[u8], l: Leg) -> Step
+    // This route with one more ride, reached by this link, where that ride is good.
+    pub fn by_link(self, book: &[u8], l: Leg, link: u8) -> Step
         requires { ⌜ LaidOut (now book) × Held (network (now book)) self × (self .count < 4) ⌝ }
+        requires { ⌜ Reached (network (now book)) (ridesOf self) l (ByLink link) ⌝ }
         ensures { λ r. ⌜ Extended (network (now (book .entry))) self l r ⌝ }
     {
         let no = Step {
@@ -170,10 +172,6 @@ impl Route {
         let Entry::Sold(fare) = entry else {
             return no;
         };
-        let change = self.reach(book, l);
-        let Joined::ByLink(link) = change else {
-            return no;
-        };
         if self.repeats(l) {
             return no;
         }
@@ -181,5 +179,20 @@ impl Route {
             good: true,
             route: self.push(l, fare, link),
         }
+    }
+
+    // This route with one more ride, where that ride is good.
+    pub fn then(self, book: &[u8], l: Leg) -> Step
+        requires { ⌜ LaidOut (now book) × Held (network (now book)) self × (self .count < 4) ⌝ }
+        ensures { λ r. ⌜ Extended (network (now (book .entry))) self l r ⌝ }
+    {
+        let change = self.reach(book, l);
+        let Joined::ByLink(link) = change else {
+            return Step {
+                good: false,
+                route: self,
+            };
+        };
+        self.by_link(book, l, link)
     }
 }

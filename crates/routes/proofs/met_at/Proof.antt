@@ -1,6 +1,6 @@
+-- `routes::met_at` meets its contract.
 use Rattle.outline.specs.Routes.{met}
 use Rattle.outline.specs.Tests.{either}
-use mathlib.Core.Path.{_≡_, refl, sym, ap, _∙_}
 use borrow.Author.Needs.{needs}
 use Rattle.routes.proofs.met_at.Statement.{statement}
 use Rattle.routes.proofs.met_at.Tie as tie

@@ -1,6 +1,6 @@
+-- `routes::share` meets its contract.
 use Rattle.outline.specs.Routes.{meets}
 use Rattle.outline.specs.Tests.{either}
-use mathlib.Core.Path.{_≡_, refl, sym, ap, _∙_}
 use borrow.Author.Needs.{needs}
 use Rattle.routes.proofs.share.Statement.{statement}
 use Rattle.routes.proofs.share.Tie as tie

@@ -1,9 +1,8 @@
+-- `routes::sold` meets its contract.
 use Rattle.routes.proofs.Rides.{sold-here}
 use Rattle.outline.specs.Routes.{exists}
 use Rattle.outline.specs.Tests.{both, choose}
-use native.Mathlib.Omega.{arith}
-use borrow.Author.Tests.{le-ltb, lt-ltb, le-leb, lt-leb, eq-eqb, ne-eqb}
-use mathlib.Core.Path.{_≡_, refl, sym, ap, _∙_}
+use borrow.Author.Tests.{le-ltb, lt-ltb, eq-eqb, ne-eqb}
 use borrow.Author.Needs.{needs}
 use Rattle.routes.proofs.sold.Statement.{statement}
 use Rattle.routes.proofs.sold.Tie as tie

@@ -1,6 +1,7 @@
+-- `routes::Route::empty` meets its contract.
 use native.Mathlib.Nat.{not-suc-le-zero}
 use native.Mathlib.Omega.{arith}
-use mathlib.Core.Path.{_≡_, refl, sym, ap, _∙_}
+use mathlib.Core.Path.{refl}
 use Rattle.routes.proofs.Route.empty.Statement.{statement}
 use Rattle.routes.proofs.Route.empty.Tie as tie
 

@@ -1,3 +1,4 @@
+-- `routes::Route::reach` meets its contract.
 use Rattle.routes.proofs.Rides.{rides-length, rides-at, reach-first, reach-next}
 use Rattle.routes.specs.Held.{ridesOf}
 use denote.Ref.{now}
@@ -6,9 +7,9 @@ use Rattle.outline.specs.Book.{network}
 use Rattle.outline.specs.Network.{linkBetween}
 use Rattle.outline.specs.Routes.{rideAt, boardedAt, alightedAt}
 use Rattle.outline.specs.declared.Leg.{Leg}
-use Prim.Native.Nat.{ℕ, _+_, _*_, _-_, _≤_, _<_}
+use Prim.Native.Nat.{_-_, _<_}
 use native.Mathlib.Omega.{arith}
-use mathlib.Core.Path.{_≡_, refl, sym, ap, _∙_}
+use mathlib.Core.Path.{_≡_, ap, _∙_}
 use borrow.Author.Needs.{needs}
 use Rattle.routes.proofs.Route.reach.Statement.{statement}
 use Rattle.routes.proofs.Route.reach.Tie as tie

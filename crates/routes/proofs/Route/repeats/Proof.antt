@@ -1,3 +1,4 @@
+-- `routes::Route::repeats` meets its contract.
 use lib.ListN.{length}
 use Rattle.routes.proofs.Rides.{rides-length, rides-at}
 use Rattle.laws.proofs.Tests.{some-more, some-stops}
@@ -7,7 +8,7 @@ use Rattle.outline.specs.Tests.{someBelow}
 use Rattle.outline.specs.declared.Leg.{Leg}
 use mathlib.Core.Bool.{false}
 use borrow.Author.Needs.{needs}
-use Prim.Native.Nat.{ℕ, _+_, _*_, _-_, _≤_, _<_}
+use Prim.Native.Nat.{ℕ, _-_, _≤_, _<_}
 use native.Mathlib.Omega.{arith}
 use mathlib.Core.Path.{_≡_, refl, sym, ap, _∙_}
 use Rattle.routes.proofs.Route.repeats.Statement.{statement}

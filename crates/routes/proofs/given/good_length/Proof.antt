@@ -1,7 +1,7 @@
+-- `routes::given::good_length` meets its contract.
 use Rattle.outline.specs.Routes.{goodLength}
 use Rattle.outline.specs.Tests.{either}
-use borrow.Author.Tests.{le-ltb, lt-ltb, le-leb, lt-leb, eq-eqb, ne-eqb}
-use mathlib.Core.Path.{_≡_, refl, sym, ap, _∙_}
+use borrow.Author.Tests.{eq-eqb, ne-eqb}
 use Rattle.routes.proofs.given.good_length.Statement.{statement}
 use Rattle.routes.proofs.given.good_length.Tie as tie
 
