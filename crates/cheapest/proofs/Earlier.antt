@@ -1,6 +1,6 @@
 -- The order of routes: reflexive, transitive, total, and no two routes are each no later than the other. So the cheapest route is one, and
 -- a question has one answer.
-use Prim.Native.Nat.{ℕ, _<_}
+use Prim.Native.Nat.{ℕ}
 use mathlib.Core.Path.{_≡_, refl, sym, ap, _∙_}
 use mathlib.Core.Logic.{_⊎_, inl, inr, ⊎-elim}
 use mathlib.Core.List.{List, [], _∷_}

@@ -1,4 +1,3 @@
 pub mod Earlier
 pub mod Lists
 pub mod Onward
-pub mod Twin

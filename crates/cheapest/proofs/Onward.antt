@@ -1,22 +1,17 @@
 -- Routes of which each ride is good after those before it: how they begin, and how they go on by one ride.
-use Prim.Native.Nat.{ℕ, zero, suc, _+_, _≤_, _<_}
-use mathlib.Core.Path.{_≡_, refl, sym, ap, subst, _∙_}
-use mathlib.Core.Bool.{Bool, true, false}
-use mathlib.Core.Logic.{_⊎_, inl, inr, ⊎-elim, _↔_}
+use Prim.Native.Nat.{ℕ, suc, _+_, _≤_, _<_}
+use mathlib.Core.Path.{_≡_, sym}
+use mathlib.Core.Bool.{true}
+use mathlib.Core.Logic.{_⊎_, ⊎-elim}
 use mathlib.Core.List.{List, [], _∷_, _++_}
 use native.Mathlib.Nat.{eq-or-lt-of-le, not-suc-le-zero}
 use native.Mathlib.Omega.{arith}
-use lib.ListN.{length, getD, take, length-append, length-take, List·getD-append}
+use lib.ListN.{length, take, length-append, List·getD-append}
 use lib.Seq.{take-suc, take-take, getD-take, take-append-seam, take-append-le, getD-append-seam, length-take-le}
 use Rattle.outline.specs.declared.Leg.{Leg}
 use Rattle.outline.specs.Network.{Network}
-use Rattle.outline.specs.Numbers.{mostRides}
-use Rattle.outline.specs.Tests.{Within}
-use Rattle.outline.specs.Routes.{noRide, rideAt, goodNext, Admissible}
-
--- each ride is good after those before it
-abbrev pub AllGood : Network → List Leg → Type 0
-AllGood N route = (i : ℕ) → i < length route → goodNext N (take i route) (rideAt route i) ≡ true
+use Rattle.cheapest.specs.Onward.{AllGood}
+use Rattle.outline.specs.Routes.{noRide, rideAt, goodNext}
 
 pub good-none : (N : Network) → AllGood N []
 good-none N i h = absurd (not-suc-le-zero h)
@@ -41,7 +36,3 @@ good-front N route n few good i h =
 
 pub one-more : (route : List Leg) (n : ℕ) → n < length route → take n route ++ (rideAt route n ∷ []) ≡ take (suc n) route
 one-more route n h = sym (take-suc route n noRide h)
-
--- a route is admissible exactly where it has 1 to 4 rides and each is good after those before it
-pub admissible-good : (N : Network) (route : List Leg) → Admissible N route ↔ (Within 1 (length route) mostRides × AllGood N route)
-admissible-good N route = ?

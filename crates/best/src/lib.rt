@@ -1,0 +1,61 @@
+// The best route so far.
+pub mod order;
+
+use routes::Route;
+ghost use mathlib.Core.Path.{_≡_};
+ghost use mathlib.Core.Bool.{false};
+ghost use Rattle.outline.specs.Book.{network};
+ghost use Rattle.outline.specs.Valid.{LaidOut};
+ghost use Rattle.outline.specs.Price.{fareOf};
+ghost use Rattle.routes.specs.Held.{ridesOf, Held};
+ghost use Rattle.cheapest.specs.Onward.{AllGood};
+ghost use Rattle.best.specs.Kept.{Sound, Improves};
+
+pub struct Best {
+    pub found: bool,
+    pub fare: u16,
+    pub route: Route,
+}
+
+fn fare(book: &[u8], route: Route) -> u16
+    requires { ⌜ LaidOut (now book) × Held (network (now book)) route ⌝ }
+    ensures { λ r. ⌜ r ≡ fareOf (network (now (book .entry))) (ridesOf route) ⌝ }
+{
+    0
+}
+
+impl Best {
+    pub fn none() -> Best
+        ensures { λ r. ⌜ r .found ≡ false ⌝ }
+    {
+        Best {
+            found: false,
+            fare: 0,
+            route: Route::empty(),
+        }
+    }
+
+    // What is held, or a route that comes earlier.
+    pub fn better(self, book: &[u8], route: Route) -> Best
+        requires { ⌜ LaidOut (now book) × Sound (network (now book)) self ⌝ }
+        requires { ⌜ Held (network (now book)) route × AllGood (network (now book)) (ridesOf route) ⌝ }
+        ensures { λ r. ⌜ Improves (network (now (book .entry))) self r (λ R. ridesOf route ≡ R) ⌝ }
+    {
+        let fare = fare(book, route);
+        if self.found {
+            if self.fare < fare {
+                return self;
+            }
+            if self.fare == fare {
+                if order::no_longer(self.route, route) {
+                    return self;
+                }
+            }
+        }
+        Best {
+            found: true,
+            fare,
+            route,
+        }
+    }
+}

@@ -1,0 +1,78 @@
+-- The steps of the search, and the routes that each goes through.
+use Prim.Native.Nat.{ℕ, _+_, _-_, _≤_, _<_}
+use mathlib.Core.Path.{_≡_}
+use mathlib.Core.Bool.{true}
+use mathlib.Core.List.{List, [], _∷_, _++_}
+use lib.ListN.{length}
+use lib.Dec.{eqb}
+use Rattle.outline.specs.declared.Station.{Station}
+use Rattle.outline.specs.declared.Link.{Link}
+use Rattle.outline.specs.declared.Leg.{Leg}
+use Rattle.outline.specs.declared.Joined.the-variants.{ByLink}
+use Rattle.outline.specs.Numbers.{mostRides}
+use Rattle.outline.specs.Tests.{choose}
+use Rattle.outline.specs.Network.{Network, linkBetween}
+use Rattle.outline.specs.Valid.{ValidBook}
+use Rattle.outline.specs.Book.{network}
+use Rattle.outline.specs.Routes.{rideAt, alightedAt, goodNext}
+use Rattle.routes.specs.Held.{ridesOf, Held}
+use Rattle.routes.specs.declared.Route.{Route}
+use Rattle.routes.specs.declared.Step.{Step}
+use Rattle.cheapest.specs.Onward.{AllGood, From}
+use Rattle.best.specs.declared.Best.{Best}
+use Rattle.best.specs.Kept.{Sound}
+
+-- the rides p have come to station x by this link; before the first ride there is none
+abbrev pub Arrived : Network → List Leg → Station → ℕ → Type 0
+Arrived N p x link = 0 < length p → linkBetween N (alightedAt (rideAt p (length p - 1))) x ≡ ByLink link
+
+abbrev pub rideTo : Station → Station → Leg
+rideTo x y = record { company = x .company; boarding = x .number; alighting = y .number }
+
+-- the end of a link that is a station of the company, and the other end
+unfoldable pub nearEnd : Link → ℕ → Station
+nearEnd l company = choose (eqb (l .one .company) company) (l .one) (l .other)
+
+unfoldable pub farEnd : Link → ℕ → Station
+farEnd l company = choose (eqb (l .one .company) company) (l .other) (l .one)
+
+-- s is the path with the ride from x to y after its rides, where that is a good ride of their company
+pub record Toward (N : Network) (path : Route) (x y : Station) (s : Step) : Type 0 where
+  pub company : s .good ≡ true → x .company ≡ y .company
+  pub good : s .good ≡ true → goodNext N (ridesOf path) (rideTo x y) ≡ true
+  pub held : s .good ≡ true → Held N (s .route)
+  pub more : s .good ≡ true → ridesOf (s .route) ≡ ridesOf path ++ (rideTo x y ∷ [])
+  pub bad : s .good ≡ false → x .company ≡ y .company → goodNext N (ridesOf path) (rideTo x y) ≡ true → ⊥
+
+-- the rides p have alighted at the near end of link k
+pub record Alighted (N : Network) (p : List Leg) (k : ℕ) : Type 0 where
+  pub some : 0 < length p
+  pub known : k < N .links
+  pub there : alightedAt (rideAt p (length p - 1)) ≡ nearEnd (N .link k) (rideAt p (length p - 1) .company)
+
+-- the ride from x to the goal ends the route
+pub record Direct (N : Network) (goal : Station) (p : List Leg) (x : Station) (route : List Leg) : Type 0 where
+  pub company : x .company ≡ goal .company
+  pub good : goodNext N p (rideTo x goal) ≡ true
+  pub is : p ++ (rideTo x goal ∷ []) ≡ route
+
+-- the route goes on by the ride from x to the near end of link k, and over that link
+pub record Over (N : Network) (goal : Station) (left : ℕ) (p : List Leg) (x : Station) (k : ℕ) (route : List Leg) : Type 0 where
+  pub company : nearEnd (N .link k) (x .company) .company ≡ x .company
+  pub good : goodNext N p (rideTo x (nearEnd (N .link k) (x .company))) ≡ true
+  pub onward : From N goal left (p ++ (rideTo x (nearEnd (N .link k) (x .company)) ∷ [])) (farEnd (N .link k) (x .company)) route
+
+-- some number below n has Q
+pub record Some (n : ℕ) (Q : ℕ → Type 0) : Type 0 where
+  pub at : ℕ
+  pub below : at < n
+  pub holds : Q at
+
+-- what a step of the search is given
+pub record Ready (b : List ℕ) (path : Route) (left : ℕ) (best : Best) : Type 0 where
+  pub valid : ValidBook b
+  pub held : Held (network b) path
+  pub good : AllGood (network b) (ridesOf path)
+  pub some : 1 ≤ left
+  pub room : path .count + left ≤ mostRides
+  pub sound : Sound (network b) best
