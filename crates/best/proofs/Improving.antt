@@ -11,7 +11,7 @@ use Rattle.outline.specs.Price.{fareOf}
 use Rattle.outline.specs.Questions.{NoLater}
 use Rattle.routes.specs.Held.{ridesOf, Held}
 use Rattle.routes.specs.declared.Route.{Route}
-use Rattle.cheapest.specs.Onward.{AllGood}
+use Rattle.laws.specs.Rides.{AllGood}
 use Rattle.cheapest.proofs.Earlier.{earlier-same, earlier-then}
 use Rattle.best.specs.declared.Best.{Best}
 use Rattle.best.specs.Kept.{Sound, Holds, Before, Improves, NoLonger}

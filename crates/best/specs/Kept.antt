@@ -14,7 +14,7 @@ use Rattle.outline.specs.Routes.{bytesOf}
 use Rattle.outline.specs.Price.{fareOf}
 use Rattle.outline.specs.Questions.{NoLater}
 use Rattle.routes.specs.Held.{ridesOf, Held}
-use Rattle.cheapest.specs.Onward.{AllGood}
+use Rattle.laws.specs.Rides.{AllGood}
 use Rattle.best.specs.declared.Best.{Best}
 use Rattle.best.specs.declared.order.Comes.{Comes}
 use Rattle.best.specs.declared.order.Comes.the-variants.{First, Alike, Last}

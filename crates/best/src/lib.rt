@@ -8,7 +8,7 @@ ghost use Rattle.outline.specs.Book.{network};
 ghost use Rattle.outline.specs.Valid.{LaidOut};
 ghost use Rattle.outline.specs.Price.{fareOf};
 ghost use Rattle.routes.specs.Held.{ridesOf, Held};
-ghost use Rattle.cheapest.specs.Onward.{AllGood};
+ghost use Rattle.laws.specs.Rides.{AllGood};
 ghost use Rattle.best.specs.Kept.{Sound, Improves};
 
 pub struct Best {

@@ -1,3 +1,5 @@
 pub mod Earlier
 pub mod Lists
 pub mod Onward
+pub mod Walking
+pub mod Twin

@@ -10,7 +10,7 @@ use lib.ListN.{length, take, length-append, List·getD-append}
 use lib.Seq.{take-suc, take-take, getD-take, take-append-seam, take-append-le, getD-append-seam, length-take-le}
 use Rattle.outline.specs.declared.Leg.{Leg}
 use Rattle.outline.specs.Network.{Network}
-use Rattle.cheapest.specs.Onward.{AllGood}
+use Rattle.laws.specs.Rides.{AllGood}
 use Rattle.outline.specs.Routes.{noRide, rideAt, goodNext}
 
 pub good-none : (N : Network) → AllGood N []

@@ -1,16 +1,15 @@
 -- The bytes of a given route and its rides.
-use Prim.Native.Nat.{ℕ, zero, suc, _+_, _*_, _/_, _≤_, _<_}
-use mathlib.Core.Path.{_≡_, refl, sym, ap, _∙_}
-use mathlib.Core.Bool.{Bool, true}
-use mathlib.Core.List.{List, [], _∷_}
+use Prim.Native.Nat.{ℕ, zero, suc, _*_, _/_, _≤_, _<_}
+use mathlib.Core.Path.{_≡_, refl}
+use mathlib.Core.Bool.{true}
+use mathlib.Core.List.{List}
 use mathlib.Core.Logic.{_↔_, ⊎-elim}
 use native.Mathlib.Omega.{arith}
-use lib.ListN.{length, getD}
+use lib.ListN.{length}
 use lib.Dec.{eqb}
 use borrow.Author.Tests.{eqb-true}
-use Rattle.outline.specs.declared.Leg.{Leg}
 use Rattle.outline.specs.Numbers.{mostRides}
-use Rattle.outline.specs.Tests.{either, Within, listOf}
+use Rattle.outline.specs.Tests.{either, Within}
 use Rattle.outline.specs.Routes.{noRide, rideAt, givenRide, routeOf, goodLength}
 use Rattle.laws.proofs.Tests.{either-true, getD-listOf, length-listOf}
 

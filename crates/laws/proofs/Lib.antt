@@ -9,3 +9,4 @@ pub mod Joining
 pub mod Book
 pub mod Routes
 pub mod Given
+pub mod Admissible

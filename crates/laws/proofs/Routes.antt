@@ -1,23 +1,23 @@
 -- What a good ride is: the tests of a given route's ride hold exactly where the ride exists, is reached and brings no station already met.
-use Prim.Native.Nat.{ℕ, zero, suc, _+_, _-_, _*_, _≤_, _<_}
+use Prim.Native.Nat.{ℕ, _-_, _<_}
 use mathlib.Core.Path.{_≡_, refl, sym, ap, _∙_}
 use mathlib.Core.Bool.{Bool, true, false, not}
-use mathlib.Core.List.{List, [], _∷_}
+use mathlib.Core.List.{List}
 use mathlib.Core.Logic.{_↔_, ⊎-elim}
 use native.Mathlib.Omega.{arith}
-use lib.ListN.{length, getD, take}
-use lib.Dec.{ltb, eqb}
-use borrow.Author.Tests.{ltb-true, lt-ltb, eqb-true, eqb-false, eq-eqb, ne-eqb, not-true, not-false}
+use lib.ListN.{length}
+use lib.Dec.{eqb}
+use borrow.Author.Tests.{ltb-true, lt-ltb, eqb-true, eqb-false, ne-eqb, not-true}
 use Rattle.outline.specs.declared.Station.{Station}
 use Rattle.outline.specs.declared.Leg.{Leg}
 use Rattle.outline.specs.declared.Entry.{Entry}
 use Rattle.outline.specs.declared.Entry.the-variants.{NotSold, Sold}
 use Rattle.outline.specs.declared.Joined.{Joined}
 use Rattle.outline.specs.declared.Joined.the-variants.{ByLink, NoLink}
-use Rattle.outline.specs.Tests.{both, either, someBelow}
-use Rattle.outline.specs.Network.{Network, sameStation, joins, linkBetween}
-use Rattle.outline.specs.Routes.{boardedAt, alightedAt, entryFor, Exists, Change, rideAt, isSold, exists, isLink, reached, met, meets, repeats, goodNext}
-use Rattle.laws.proofs.Tests.{true-not-false, fails, both-true, both-holds, either-true, either-false, either-second, some-false, none-holds}
+use Rattle.outline.specs.Tests.{either}
+use Rattle.outline.specs.Network.{Network, sameStation, linkBetween}
+use Rattle.outline.specs.Routes.{boardedAt, alightedAt, Exists, Change, rideAt, isSold, exists, isLink, reached, met, meets, repeats, goodNext}
+use Rattle.laws.proofs.Tests.{true-not-false, fails, both-true, both-holds, either-true, either-false, some-false, none-holds}
 use Rattle.laws.proofs.Judging.{same-station, same-station-holds}
 use Rattle.laws.proofs.Book.{no-link, found-link}
 

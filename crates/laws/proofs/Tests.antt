@@ -40,6 +40,10 @@ unfolding either
 either-true true b e = inl refl
 either-true false b e = inr e
 
+pub either-first : (a b : Bool) → a ≡ true → either a b ≡ true
+unfolding either
+either-first a b e = rw e
+
 pub either-second : (a b : Bool) → b ≡ true → either a b ≡ true
 unfolding either
 either-second true b e = refl

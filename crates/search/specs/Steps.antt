@@ -18,23 +18,14 @@ use Rattle.outline.specs.Routes.{rideAt, alightedAt, goodNext}
 use Rattle.routes.specs.Held.{ridesOf, Held}
 use Rattle.routes.specs.declared.Route.{Route}
 use Rattle.routes.specs.declared.Step.{Step}
-use Rattle.cheapest.specs.Onward.{AllGood, From}
+use Rattle.laws.specs.Rides.{AllGood}
+use Rattle.cheapest.specs.Onward.{rideTo, nearEnd}
 use Rattle.best.specs.declared.Best.{Best}
 use Rattle.best.specs.Kept.{Sound}
 
 -- the rides p have come to station x by this link; before the first ride there is none
 abbrev pub Arrived : Network → List Leg → Station → ℕ → Type 0
 Arrived N p x link = 0 < length p → linkBetween N (alightedAt (rideAt p (length p - 1))) x ≡ ByLink link
-
-abbrev pub rideTo : Station → Station → Leg
-rideTo x y = record { company = x .company; boarding = x .number; alighting = y .number }
-
--- the end of a link that is a station of the company, and the other end
-unfoldable pub nearEnd : Link → ℕ → Station
-nearEnd l company = choose (eqb (l .one .company) company) (l .one) (l .other)
-
-unfoldable pub farEnd : Link → ℕ → Station
-farEnd l company = choose (eqb (l .one .company) company) (l .other) (l .one)
 
 -- s is the path with the ride from x to y after its rides, where that is a good ride of their company
 pub record Toward (N : Network) (path : Route) (x y : Station) (s : Step) : Type 0 where
@@ -49,24 +40,6 @@ pub record Alighted (N : Network) (p : List Leg) (k : ℕ) : Type 0 where
   pub some : 0 < length p
   pub known : k < N .links
   pub there : alightedAt (rideAt p (length p - 1)) ≡ nearEnd (N .link k) (rideAt p (length p - 1) .company)
-
--- the ride from x to the goal ends the route
-pub record Direct (N : Network) (goal : Station) (p : List Leg) (x : Station) (route : List Leg) : Type 0 where
-  pub company : x .company ≡ goal .company
-  pub good : goodNext N p (rideTo x goal) ≡ true
-  pub is : p ++ (rideTo x goal ∷ []) ≡ route
-
--- the route goes on by the ride from x to the near end of link k, and over that link
-pub record Over (N : Network) (goal : Station) (left : ℕ) (p : List Leg) (x : Station) (k : ℕ) (route : List Leg) : Type 0 where
-  pub company : nearEnd (N .link k) (x .company) .company ≡ x .company
-  pub good : goodNext N p (rideTo x (nearEnd (N .link k) (x .company))) ≡ true
-  pub onward : From N goal left (p ++ (rideTo x (nearEnd (N .link k) (x .company)) ∷ [])) (farEnd (N .link k) (x .company)) route
-
--- some number below n has Q
-pub record Some (n : ℕ) (Q : ℕ → Type 0) : Type 0 where
-  pub at : ℕ
-  pub below : at < n
-  pub holds : Q at
 
 -- what a step of the search is given
 pub record Ready (b : List ℕ) (path : Route) (left : ℕ) (best : Best) : Type 0 where
