@@ -169,12 +169,12 @@ module _ (N : Network) (q : Question) (route : List Leg) where
   pub joins-from : Joins N q route → From N (q .to) (q .limit) [] (q .from) route
   joins-from j =
       let g = admissible-good N route .0 (j .admissible) in
-      record { good = g .1; begins = refl; more = g .0 .from; few = j .short; boards = j .from; ends = j .to }
+      record { good = g .1; begins = refl; more = g .0 .from; few = omega (arith, j .short); boards = j .from; ends = j .to }
 
   pub from-joins : q .limit ≤ mostRides → From N (q .to) (q .limit) [] (q .from) route → Joins N q route
   from-joins most f = record {
     admissible = admissible-good N route .1 (record { from = f .more; to = omega (arith, f .few) }, f .good);
     from = f .boards;
     to = f .ends;
-    short = f .few;
+    short = omega (arith, f .few);
   }
