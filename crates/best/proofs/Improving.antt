@@ -12,6 +12,8 @@ use Rattle.outline.specs.Questions.{NoLater}
 use Rattle.routes.specs.Held.{ridesOf, Held}
 use Rattle.routes.specs.declared.Route.{Route}
 use Rattle.laws.specs.Rides.{AllGood}
+use Rattle.cheapest.specs.Onward.{Some}
+use native.Mathlib.Nat.{eq-or-lt-of-le}
 use Rattle.cheapest.proofs.Earlier.{earlier-same, earlier-then}
 use Rattle.best.specs.declared.Best.{Best}
 use Rattle.best.specs.Kept.{Sound, Holds, Before, Improves, NoLonger}
@@ -70,3 +72,23 @@ by-fare N s t f g e h l = inl (omega arith)
 
 pub by-rides : (N : Network) (s t : List Leg) (f g : ℕ) → f ≡ fareOf N s → g ≡ fareOf N t → f ≡ g → NoLonger s t → NoLater N s t
 by-rides N s t f g e h same l = inr (sym e ∙ same ∙ h, l)
+
+-- ---- a loop whose turn n goes through those of Q n
+
+pub loop-none : (N : Network) (b : Best) (Q : ℕ → List Leg → Type 0) → Sound N b → Improves N b b (λ R. Some 0 (λ i. Q i R))
+loop-none N b Q s = improves-none N b (λ R. Some 0 (λ i. Q i R)) s (λ R h. omega (arith, h .below))
+
+some-up : (n : ℕ) (Q : ℕ → Type 0) → Some n Q → Some (n + 1) Q
+some-up n Q s = record { at = s .at; below = omega (arith, s .below); holds = s .holds }
+
+some-here : (n : ℕ) (Q : ℕ → Type 0) → Q n → Some (n + 1) Q
+some-here n Q q = record { at = n; below = omega arith; holds = q }
+
+some-down : (n : ℕ) (Q : ℕ → Type 0) → Some (n + 1) Q → Some n Q ⊎ Q n
+some-down n Q s =
+    let le : s .at ≤ n = omega (arith, s .below) in
+    ⊎-elim (λ e. inr (subst Q e (s .holds))) (λ l. inl (record { at = s .at; below = l; holds = s .holds })) (eq-or-lt-of-le le)
+
+pub loop-turn : (N : Network) {b c d : Best} (Q : ℕ → List Leg → Type 0) (n : ℕ) → Improves N b c (λ R. Some n (λ i. Q i R)) → Improves N c d (Q n)
+    → Improves N b d (λ R. Some (n + 1) (λ i. Q i R))
+loop-turn N Q n i j = improves-then N (λ R. Some (n + 1) (λ i. Q i R)) i j (λ R x. some-up n (λ i. Q i R) x) (λ R x. some-here n (λ i. Q i R) x) (λ R x. some-down n (λ i. Q i R) x)
