@@ -47,6 +47,10 @@ module _ (N : Network) (route : List Leg) (earn : Earn) (frugal : Frugal N route
   total-within from [] h = omega arith
   total-within from (p ∷ s) h = let l = total-less from p s h (total-within (p .first + p .rides) s (h .1)) in omega arith
 
+  -- a selection earns no more than the route costs
+  pub total-most : (s : List Run) → Apart earn rules (length route) 0 s → total earn s ≤ sumOf N route
+  total-most s h = total-within 0 s h
+
   -- a route that costs something costs something after its discounts
   pub total-below : (s : List Run) → Apart earn rules (length route) 0 s → 0 < sumOf N route → total earn s < sumOf N route
   unfolding Apart total

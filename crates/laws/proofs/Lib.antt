@@ -9,4 +9,5 @@ pub mod Joining
 pub mod Book
 pub mod Routes
 pub mod Given
+pub mod Entries
 pub mod Admissible

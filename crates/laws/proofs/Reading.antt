@@ -223,3 +223,13 @@ table-read b body c start h e s = rw (e, s, getD-listOf (λ (c : ℕ). tableOf (
 pub tables-count : (b : List ℕ) → length (faresOf b .tables) ≡ companyCount b
 unfolding faresOf
 tables-count b = length-listOf _ (companyCount b)
+
+-- ---- small numbers of a book that is laid out
+
+pub stations-few : (b : List ℕ) → LaidOut b → (c : ℕ) → c < network b .companies → network b .stations c ≤ 40
+stations-few b w c h =
+    let k = known-company b c h in
+    rw (network-stations b c k) (w .companies c k .stations .to)
+
+pub links-few : (b : List ℕ) → LaidOut b → network b .links ≤ 128
+links-few b w = rw (network-links b) (w .header .links)
