@@ -1,7 +1,7 @@
 -- Laws of `Improves`: what is held after one part of a search and then another, after an offer, and round a loop.
 use Prim.Native.Nat.{ℕ, _+_, _≤_, _<_}
 use mathlib.Core.Path.{_≡_, refl, sym, subst, _∙_}
-use mathlib.Core.Bool.{true, false}
+use mathlib.Core.Bool.{true}
 use mathlib.Core.Logic.{_⊎_, inl, inr, ⊎-elim}
 use mathlib.Core.List.{List}
 use native.Mathlib.Omega.{arith}
@@ -16,7 +16,7 @@ use Rattle.cheapest.specs.Onward.{Some}
 use native.Mathlib.Nat.{eq-or-lt-of-le}
 use Rattle.cheapest.proofs.Earlier.{earlier-same, earlier-then}
 use Rattle.best.specs.declared.Best.{Best}
-use Rattle.best.specs.Kept.{Sound, Holds, Before, Improves, NoLonger}
+use Rattle.best.specs.Kept.{Sound, Improves, NoLonger}
 
 -- nothing has P
 pub improves-none : (N : Network) (b : Best) (P : List Leg → Type 0) → Sound N b → ((R : List Leg) → P R → ⊥) → Improves N b b P

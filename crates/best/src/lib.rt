@@ -1,12 +1,12 @@
 // The best route so far.
 pub mod order;
 
+use price::answers;
 use routes::Route;
 ghost use mathlib.Core.Path.{_≡_};
 ghost use mathlib.Core.Bool.{false};
 ghost use Rattle.outline.specs.Book.{network};
-ghost use Rattle.outline.specs.Valid.{LaidOut};
-ghost use Rattle.outline.specs.Price.{fareOf};
+ghost use Rattle.outline.specs.Valid.{ValidBook};
 ghost use Rattle.routes.specs.Held.{ridesOf, Held};
 ghost use Rattle.laws.specs.Rides.{AllGood};
 ghost use Rattle.best.specs.Kept.{Sound, Improves};
@@ -15,13 +15,6 @@ pub struct Best {
     pub found: bool,
     pub fare: u16,
     pub route: Route,
-}
-
-fn fare(book: &[u8], route: Route) -> u16
-    requires { ⌜ LaidOut (now book) × Held (network (now book)) route ⌝ }
-    ensures { λ r. ⌜ r ≡ fareOf (network (now (book .entry))) (ridesOf route) ⌝ }
-{
-    0
 }
 
 impl Best {
@@ -37,11 +30,11 @@ impl Best {
 
     // What is held, or a route that comes earlier.
     pub fn better(self, book: &[u8], route: Route) -> Best
-        requires { ⌜ LaidOut (now book) × Sound (network (now book)) self ⌝ }
+        requires { ⌜ ValidBook (now book) × Sound (network (now book)) self ⌝ }
         requires { ⌜ Held (network (now book)) route × AllGood (network (now book)) (ridesOf route) ⌝ }
         ensures { λ r. ⌜ Improves (network (now (book .entry))) self r (λ R. ridesOf route ≡ R) ⌝ }
     {
-        let fare = fare(book, route);
+        let fare = answers::fare(book, route);
         if self.found {
             if self.fare < fare {
                 return self;

@@ -1,8 +1,7 @@
 -- `best::Best::better` meets its contract.
 use mathlib.Core.Logic.{⊎-elim}
 use native.Mathlib.Nat.{eq-or-lt-of-le}
-use mathlib.Core.Path.{_≡_, sym, _∙_}
-use native.Mathlib.Omega.{arith}
+use mathlib.Core.Path.{sym, _∙_}
 use Rattle.outline.specs.Book.{network}
 use Rattle.laws.proofs.Tests.{true-not-false}
 use Rattle.best.proofs.Improving.{held-stays, offer-taken, by-fare, by-rides}

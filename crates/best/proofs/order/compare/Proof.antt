@@ -1,3 +1,4 @@
+-- `best::order::compare` meets its contract.
 use borrow.Author.Tests.{le-ltb, lt-ltb}
 use Rattle.outline.specs.Tests.{choose}
 use Rattle.best.specs.Kept.{comesBy}

@@ -1,5 +1,5 @@
 -- `best::order::compare_rides` meets its contract.
-use mathlib.Core.Path.{_≡_, ap, _∙_}
+use mathlib.Core.Path.{ap, _∙_}
 use Rattle.best.specs.Kept.{comesBy, rideComes}
 -- `best::order::compare_rides` meets its contract.
 use borrow.Author.Needs.{needs}

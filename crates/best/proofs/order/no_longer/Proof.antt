@@ -1,6 +1,6 @@
 -- `best::order::no_longer` meets its contract.
 use mathlib.Core.Path.{_≡_, sym, _∙_}
-use mathlib.Core.Logic.{_⊎_, inl, inr}
+use mathlib.Core.Logic.{inl, inr}
 use native.Mathlib.Omega.{arith}
 use Rattle.laws.proofs.Tests.{true-not-false}
 use Rattle.routes.proofs.Rides.{rides-length}
