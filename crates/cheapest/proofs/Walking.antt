@@ -38,10 +38,13 @@ module _ (p : List Leg) (l : Leg) where
   pub last-ride : rideAt (p ++ (l ∷ [])) (length p) ≡ l
   last-ride = getD-append-seam p l [] noRide
 
-  pub end-of : endOf (p ++ (l ∷ [])) ≡ alightedAt l
-  end-of =
+  pub final-ride : rideAt (p ++ (l ∷ [])) (length (p ++ (l ∷ [])) - 1) ≡ l
+  final-ride =
       let n : length (p ++ (l ∷ [])) - 1 ≡ length p = omega (arith, longer) in
-      ap (λ (i : ℕ). alightedAt (rideAt (p ++ (l ∷ [])) i)) n ∙ ap alightedAt last-ride
+      ap (rideAt (p ++ (l ∷ []))) n ∙ last-ride
+
+  pub end-of : endOf (p ++ (l ∷ [])) ≡ alightedAt l
+  end-of = ap alightedAt final-ride
 
 -- ---- the two ends of a link
 

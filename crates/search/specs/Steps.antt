@@ -1,16 +1,13 @@
 -- The steps of the search, and the routes that each goes through.
 use Prim.Native.Nat.{ℕ, _+_, _-_, _≤_, _<_}
 use mathlib.Core.Path.{_≡_}
-use mathlib.Core.Bool.{true}
+use mathlib.Core.Bool.{true, false}
 use mathlib.Core.List.{List, [], _∷_, _++_}
 use lib.ListN.{length}
-use lib.Dec.{eqb}
 use Rattle.outline.specs.declared.Station.{Station}
-use Rattle.outline.specs.declared.Link.{Link}
 use Rattle.outline.specs.declared.Leg.{Leg}
 use Rattle.outline.specs.declared.Joined.the-variants.{ByLink}
 use Rattle.outline.specs.Numbers.{mostRides}
-use Rattle.outline.specs.Tests.{choose}
 use Rattle.outline.specs.Network.{Network, linkBetween}
 use Rattle.outline.specs.Valid.{ValidBook}
 use Rattle.outline.specs.Book.{network}
@@ -19,7 +16,7 @@ use Rattle.routes.specs.Held.{ridesOf, Held}
 use Rattle.routes.specs.declared.Route.{Route}
 use Rattle.routes.specs.declared.Step.{Step}
 use Rattle.laws.specs.Rides.{AllGood}
-use Rattle.cheapest.specs.Onward.{rideTo, nearEnd}
+use Rattle.cheapest.specs.Onward.{rideTo, nearEnd, farEnd}
 use Rattle.best.specs.declared.Best.{Best}
 use Rattle.best.specs.Kept.{Sound}
 
@@ -40,6 +37,10 @@ pub record Alighted (N : Network) (p : List Leg) (k : ℕ) : Type 0 where
   pub some : 0 < length p
   pub known : k < N .links
   pub there : alightedAt (rideAt p (length p - 1)) ≡ nearEnd (N .link k) (rideAt p (length p - 1) .company)
+
+-- the station at the other end of link k
+abbrev pub beyond : Network → List Leg → ℕ → Station
+beyond N p k = farEnd (N .link k) (rideAt p (length p - 1) .company)
 
 -- what a step of the search is given
 pub record Ready (b : List ℕ) (path : Route) (left : ℕ) (best : Best) : Type 0 where

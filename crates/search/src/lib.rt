@@ -1,8 +1,14 @@
 // The cheapest route, by a search that goes from ride to change and from change to ride.
 use best::Best;
+use layout::bytes::wide;
+use outline::Answer;
+use outline::Judged;
 use outline::Leg;
 use outline::Link;
+use outline::Question;
+use outline::Refusal;
 use outline::Station;
+use price::answers;
 use routes::Route;
 use routes::Step;
 ghost use mathlib.Core.Path.{_≡_};
@@ -11,11 +17,13 @@ ghost use mathlib.Core.Bool.{false};
 ghost use lib.ListN.{length};
 ghost use Rattle.outline.specs.Book.{network};
 ghost use Rattle.outline.specs.Routes.{rideAt};
-ghost use Rattle.outline.specs.Valid.{ValidBook};
-ghost use Rattle.routes.specs.Held.{ridesOf, Held};
-ghost use Rattle.cheapest.specs.Onward.{From};
+ghost use Rattle.outline.specs.Valid.{LaidOut, ValidBook};
+ghost use Rattle.outline.specs.declared.Judged.the-variants.{Good};
+ghost use Rattle.outline.specs.Questions.{questionCheck, Answered, Asked};
+ghost use Rattle.routes.specs.Held.{ridesOf, Sized, Held};
+ghost use Rattle.cheapest.specs.Onward.{From, Direct, nearEnd, farEnd};
 ghost use Rattle.best.specs.Kept.{Improves};
-ghost use Rattle.search.specs.Steps.{Ready, Arrived, Direct, Toward, Alighted, nearEnd, farEnd};
+ghost use Rattle.search.specs.Steps.{Ready, Arrived, Toward, Alighted, beyond};
 
 fn near_end(l: Link, company: u8) -> Station
     ensures { λ r. ⌜ r ≡ nearEnd l company ⌝ }
@@ -71,6 +79,30 @@ fn arrive(book: &[u8], path: Route, at: Station, link: u8, goal: Station, best: 
     best
 }
 
+// The ride to the end of link k that is a station of the company.
+fn to_link(book: &[u8], path: Route, at: Station, link: u8, k: u8) -> Step
+    requires { ⌜ ValidBook (now book) × Held (network (now book)) path × (path .count < 4) × Arrived (network (now book)) (ridesOf path) at link ⌝ }
+    requires { ⌜ k < network (now book) .links ⌝ }
+    ensures { λ r. ⌜ Toward (network (now (book .entry))) path at (nearEnd (network (now (book .entry)) .link k) (at .company)) r ⌝ }
+{
+    ride(
+        book,
+        path,
+        at,
+        link,
+        near_end(lookup::link(book, k), at.company),
+    )
+}
+
+// The station at the other end of link k.
+fn over(book: &[u8], path: Route, k: u8) -> Station
+    requires { ⌜ LaidOut (now book) × Sized path × Alighted (network (now book)) (ridesOf path) k ⌝ }
+    ensures { λ r. ⌜ r ≡ beyond (network (now (book .entry))) (ridesOf path) k ⌝ }
+{
+    let last = path.legs[path.count - 1];
+    far_end(lookup::link(book, k), last.company)
+}
+
 // Goes on by a ride from the station that `path` has come to by this link, with so many rides left: to the goal, or to a link.
 fn by_rides(
     book: &[u8],
@@ -91,13 +123,7 @@ fn by_rides(
     let n = lookup::links(book);
     let mut k: u8 = 0;
     while k < n {
-        let step = ride(
-            book,
-            path,
-            at,
-            link,
-            near_end(lookup::link(book, k), at.company),
-        );
+        let step = to_link(book, path, at, link, k);
         if step.good {
             kept = by_links(book, step.route, k, goal, left - 1, kept);
         }
@@ -109,9 +135,42 @@ fn by_rides(
 // Goes on by link k from the station where `path` has alighted, with so many rides left.
 fn by_links(book: &[u8], path: Route, k: u8, goal: Station, left: usize, best: Best) -> Best
     requires { ⌜ Ready (now book) path left best × Alighted (network (now book)) (ridesOf path) k ⌝ }
-    ensures { λ r. ⌜ Improves (network (now (book .entry))) best r (From (network (now (book .entry))) goal left (ridesOf path) (farEnd (network (now (book .entry)) .link k) (rideAt (ridesOf path) (length (ridesOf path) - 1) .company))) ⌝ }
+    ensures { λ r. ⌜ Improves (network (now (book .entry))) best r (From (network (now (book .entry))) goal left (ridesOf path) (beyond (network (now (book .entry))) (ridesOf path) k)) ⌝ }
 {
-    let last = path.legs[path.count - 1];
-    let at = far_end(lookup::link(book, k), last.company);
-    by_rides(book, path, at, k, goal, left, best)
+    by_rides(book, path, over(book, path, k), k, goal, left, best)
+}
+
+// The cheapest route of a question that is good, on a valid book, with its price.
+pub fn ask(book: &[u8], question: Question) -> Answer
+    requires { ⌜ ValidBook (now book) × (questionCheck (network (now book)) question ≡ Good) ⌝ }
+    ensures { λ r. ⌜ Answered (network (now (book .entry))) question r ⌝ }
+{
+    let best = by_rides(
+        book,
+        Route::empty(),
+        question.from,
+        0,
+        question.to,
+        wide(question.limit),
+        Best::none(),
+    );
+    if best.found {
+        return answers::answer(book, best.route);
+    }
+    answers::refused(Refusal::NoRoute)
+}
+
+// The cheapest route between two stations with its price, or what is refused.
+pub fn cheapest(book: &[u8], question: Question) -> Answer
+    ensures { λ r. ⌜ Asked (now (book .entry)) question r ⌝ }
+{
+    let found = book::judge(book);
+    if let Judged::Refused(x) = found {
+        return answers::refused(x);
+    }
+    let asked = questions::judge(book, question);
+    if let Judged::Refused(x) = asked {
+        return answers::refused(x);
+    }
+    ask(book, question)
 }

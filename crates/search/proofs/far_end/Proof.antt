@@ -1,16 +1,17 @@
 -- `search::far_end` meets its contract.
+use borrow.Author.Tests.{eq-eqb, ne-eqb}
+use Rattle.outline.specs.Tests.{choose}
+use Rattle.cheapest.specs.Onward.{farEnd}
 use Rattle.search.proofs.far_end.Statement.{statement}
 use Rattle.search.proofs.far_end.Tie as tie
-use Rattle.search.proofs.far_end.Reads as reads
-use Rattle.search.proofs.far_end.Lts as lts
 
--- src/lib.rt:38:9
 returns : tie.Need-returns
-returns c = ?
+unfolding farEnd choose
+returns c = rw (eq-eqb _ _ (c .before .if1 .taken))
 
--- src/lib.rt:33:1
 returns-2 : tie.Need-returns-2
-returns-2 c = ?
+unfolding farEnd choose
+returns-2 c = rw (ne-eqb _ _ (c .if1 .left))
 
 pub far-end-spec : {M : Type 1} → statement M
 far-end-spec = tie.close (tie.spec returns returns-2)

@@ -1,0 +1,132 @@
+-- What each step of the search shows: a ride that is good or not, and the routes that go on from it.
+use Prim.Native.Nat.{ℕ, _+_, _-_, _≤_, _<_}
+use mathlib.Core.Path.{_≡_, refl, sym, ap, subst, _∙_}
+use mathlib.Core.Bool.{true, false}
+use mathlib.Core.Logic.{_⊎_, inl, inr, ⊎-elim}
+use mathlib.Core.List.{List, [], _∷_, _++_}
+use native.Mathlib.Omega.{arith}
+use lib.ListN.{length}
+use Rattle.outline.specs.declared.Station.{Station}
+use Rattle.outline.specs.declared.Leg.{Leg}
+use Rattle.outline.specs.declared.Joined.the-variants.{ByLink}
+use Rattle.outline.specs.Network.{Network, joins}
+use Rattle.outline.specs.Routes.{boardedAt, alightedAt, rideAt, goodNext, isLink}
+use Rattle.outline.specs.Questions.{endOf}
+use Rattle.laws.specs.Rides.{AllGood}
+use Rattle.laws.proofs.Tests.{true-not-false}
+use Rattle.laws.proofs.Order.{GoodLinks}
+use Rattle.laws.proofs.Book.{found-link, by-link}
+use Rattle.laws.proofs.Routes.{reached-is}
+use Rattle.routes.specs.declared.Route.{Route}
+use Rattle.routes.specs.declared.Step.{Step}
+use Rattle.routes.specs.Held.{ridesOf, Sized, Held, Reached, Extended}
+use Rattle.routes.proofs.Rides.{rides-length}
+use Rattle.cheapest.specs.Onward.{From, Direct, Over, Some, rideTo, nearEnd, farEnd}
+use Rattle.cheapest.proofs.Onward.{good-more}
+use Rattle.cheapest.proofs.Walking.{longer, final-ride, direct-from, over-from, from-splits, near-joins-far}
+use Rattle.best.specs.declared.Best.{Best}
+use Rattle.best.specs.Kept.{Sound, Improves}
+use Rattle.best.proofs.Improving.{improves-none, improves-same, improves-then}
+use Rattle.search.specs.Steps.{Arrived, Toward, Alighted, beyond}
+
+-- ---- one ride
+
+pub arrived-reached : (N : Network) (p : List Leg) (x y : Station) (link : ℕ) → Arrived N p x link → Reached N p (rideTo x y) (ByLink link)
+unfolding isLink
+arrived-reached N p x y link a = record {
+  test = sym (reached-is N p (rideTo x y) .1 (λ some. let f = found-link N _ _ link (a some) in record { link = link; known = f .0; joined = f .1 }));
+  walked = λ some. sym (a some);
+}
+
+module _ (N : Network) (path : Route) (x y : Station) where
+  pub not-toward : (x .company ≡ y .company → ⊥) → Toward N path x y (record { good = false; route = path })
+  not-toward n = record {
+    company = λ t. absurd (true-not-false (sym t));
+    good = λ t. absurd (true-not-false (sym t));
+    held = λ t. absurd (true-not-false (sym t));
+    more = λ t. absurd (true-not-false (sym t));
+    bad = λ f e g. n e;
+  }
+
+  pub toward : (s : Step) → x .company ≡ y .company → Extended N path (rideTo x y) s → Toward N path x y s
+  toward s e x = record {
+    company = λ t. e;
+    good = λ t. sym (x .test) ∙ t;
+    held = x .held;
+    more = x .more;
+    bad = λ f e g. true-not-false (sym g ∙ sym (x .test) ∙ f);
+  }
+
+  module _ (s : Step) (w : Toward N path x y s) (t : s .good ≡ true) where
+    pub step-good : AllGood N (ridesOf path) → AllGood N (ridesOf (s .route))
+    step-good good = subst (AllGood N) (sym (w .more t)) (good-more N (ridesOf path) (rideTo x y) good (w .good t))
+
+    pub step-count : Sized path → s .route .count ≡ path .count + 1
+    step-count sized =
+        let here = rides-length path sized in
+        let there = rides-length (s .route) (w .held t .sized) in
+        let more = ap length (w .more t) in
+        omega (arith, longer (ridesOf path) (rideTo x y))
+
+-- ---- to the goal
+
+module _ (N : Network) (path : Route) (x goal : Station) (s : Step) (w : Toward N path x goal s) where
+  pub goal-reached : {b c : Best} → s .good ≡ true → Improves N b c (λ R. ridesOf (s .route) ≡ R) → Improves N b c (Direct N goal (ridesOf path) x)
+  goal-reached t i =
+      improves-same N (Direct N goal (ridesOf path) x) i
+      (λ R e. record { company = w .company t; good = w .good t; is = sym (w .more t) ∙ e })
+      (λ R d. w .more t ∙ d .is)
+
+  pub goal-missed : (b : Best) → s .good ≡ false → Sound N b → Improves N b b (Direct N goal (ridesOf path) x)
+  goal-missed b f sound = improves-none N b (Direct N goal (ridesOf path) x) sound (λ R d. w .bad f (d .company) (d .good))
+
+-- ---- to a link and over it
+
+module _ (N : Network) (goal : Station) (path : Route) (x : Station) (left k : ℕ) where
+  abbrev Near : Station
+  Near = nearEnd (N .link k) (x .company)
+
+  module _ (s : Step) (w : Toward N path x Near s) where
+    -- the path with the ride to the link has alighted at its near end
+    pub link-reached : s .good ≡ true → k < N .links → Alighted N (ridesOf (s .route)) k
+    link-reached t known = subst (λ (r : List Leg). Alighted N r k) (sym (w .more t)) (record {
+      some = omega (arith, longer (ridesOf path) (rideTo x Near));
+      known = known;
+      there = subst (λ (r : Leg). alightedAt r ≡ nearEnd (N .link k) (r .company)) (sym (final-ride (ridesOf path) (rideTo x Near))) (λ i. record { company = w .company t i; number = Near .number });
+    })
+
+    pub link-taken : {b c : Best} → s .good ≡ true → Improves N b c (From N goal left (ridesOf (s .route)) (beyond N (ridesOf (s .route)) k))
+        → Improves N b c (Over N goal left (ridesOf path) x k)
+    link-taken t i =
+        let far : beyond N (ridesOf path ++ (rideTo x Near ∷ [])) k ≡ farEnd (N .link k) (x .company) = ap (λ (r : Leg). farEnd (N .link k) (r .company)) (final-ride (ridesOf path) (rideTo x Near)) in
+        improves-same N (Over N goal left (ridesOf path) x k) i
+        (λ R f. record {
+          company = w .company t;
+          good = w .good t;
+          onward = subst (λ (y : Station). From N goal left (ridesOf path ++ (rideTo x Near ∷ [])) y R) far (subst (λ (r : List Leg). From N goal left r (beyond N r k) R) (w .more t) f);
+        })
+        (λ R o. subst (λ (r : List Leg). From N goal left r (beyond N r k) R) (sym (w .more t)) (subst (λ (y : Station). From N goal left (ridesOf path ++ (rideTo x Near ∷ [])) y R) (sym far) (o .onward)))
+
+    pub link-missed : (b : Best) → s .good ≡ false → Sound N b → Improves N b b (Over N goal left (ridesOf path) x k)
+    link-missed b f sound = improves-none N b (Over N goal left (ridesOf path) x k) sound (λ R o. w .bad f (o .company) (o .good))
+
+-- over the link, the far end is where the path has come by it
+pub link-walked : (N : Network) (p : List Leg) (k : ℕ) → GoodLinks N → Alighted N p k → Arrived N p (beyond N p k) k
+link-walked N p k good a some = by-link N (alightedAt (rideAt p (length p - 1))) (beyond N p k) good k .1 (a .known, subst (λ (y : Station). joins (N .link k) y (beyond N p k) ≡ true) (sym (a .there)) (near-joins-far (N .link k) (rideAt p (length p - 1) .company)))
+
+-- ---- all of a step by rides
+
+module _ (N : Network) (goal : Station) (p : List Leg) (x : Station) where
+  -- with one ride left only the goal is tried
+  pub last-step : {b c : Best} (left : ℕ) → GoodLinks N → AllGood N p → 1 ≤ left → left < 2 → Improves N b c (Direct N goal p x) → Improves N b c (From N goal left p x)
+  last-step left links good some few i =
+      improves-same N (From N goal left p x) i (λ R d. direct-from N goal p x R left some good d)
+      (λ R f. ⊎-elim (λ d. d) (λ o. absurd (let h = o .holds .onward in omega (arith, h .more, h .few))) (from-splits N goal p x R left links f))
+
+  pub whole-step : {b c d : Best} (left : ℕ) → GoodLinks N → AllGood N p → 1 ≤ left → Improves N b c (Direct N goal p x)
+      → Improves N c d (λ R. Some (N .links) (λ k. Over N goal (left - 1) p x k R)) → Improves N b d (From N goal left p x)
+  whole-step left links good some i j =
+      improves-then N (From N goal left p x) i j
+      (λ R d. direct-from N goal p x R left some good d)
+      (λ R o. let e : left - 1 + 1 ≡ left = omega arith in subst (λ (n : ℕ). From N goal n p x R) e (over-from N goal p x R (left - 1) (o .at) (o .holds)))
+      (λ R f. from-splits N goal p x R left links f)
