@@ -188,20 +188,20 @@ pub found-is : (N : Network) (q : Question) → q .limit ≤ mostRides → Answe
 unfolding foundOf
 found-is N q most = among-is N q (those (joinsThem q) (routesWithin N (q .limit))) (λ t. (candidate N q t, candidate-joins N q t most))
 
-limit-good : (N : Network) (q : Question) → questionCheck N q ≡ Good → q .limit ≤ mostRides
+pub limit-within : (N : Network) (q : Question) → questionCheck N q ≡ Good → Within 1 (q .limit) mostRides
 unfolding questionCheck
-limit-good N q e =
+limit-within N q e =
     let (_, a) = demand-good _ _ _ e in
     let (_, b) = demand-good _ _ _ a in
     let (_, c) = demand-good _ _ _ b in
-    within-true _ _ _ (demand-good _ _ _ c .0) .to
+    within-true _ _ _ (demand-good _ _ _ c .0)
 
 pub asked-computed : (b : List ℕ) (q : Question) → Asked b q (askedOf b q)
 unfolding Asked AnswerTo askedOf answerTo
 asked-computed b q = go (bookCheck b andThen questionCheck (network b) q) refl
   where
     go : (a : Judged) → bookCheck b andThen questionCheck (network b) q ≡ a → AnswerTo a (network b) q (answerTo a (foundOf (network b) q))
-    go Good e = found-is (network b) q (limit-good (network b) q (then-good _ _ e .1))
+    go Good e = found-is (network b) q (limit-within (network b) q (then-good _ _ e .1) .to)
     go (Refused x) e = refl
 
 -- what the definition allows is what is computed

@@ -2,7 +2,7 @@
 use Prim.Native.Nat.{ℕ, _+_, _-_, _≤_, _<_}
 use mathlib.Core.Path.{_≡_, refl, sym, ap, subst, _∙_}
 use mathlib.Core.Bool.{true, false}
-use mathlib.Core.Logic.{_⊎_, inl, inr, ⊎-elim}
+use mathlib.Core.Logic.{_⊎_, ⊎-elim}
 use mathlib.Core.List.{List, [], _∷_, _++_}
 use native.Mathlib.Omega.{arith}
 use lib.ListN.{length}
@@ -10,8 +10,13 @@ use Rattle.outline.specs.declared.Station.{Station}
 use Rattle.outline.specs.declared.Leg.{Leg}
 use Rattle.outline.specs.declared.Joined.the-variants.{ByLink}
 use Rattle.outline.specs.Network.{Network, joins}
-use Rattle.outline.specs.Routes.{boardedAt, alightedAt, rideAt, goodNext, isLink}
-use Rattle.outline.specs.Questions.{endOf}
+use Rattle.outline.specs.Routes.{alightedAt, rideAt, isLink}
+use Rattle.outline.specs.declared.Question.{Question}
+use Rattle.outline.specs.Numbers.{mostRides}
+use Rattle.outline.specs.Tests.{Within}
+use Rattle.outline.specs.Book.{network}
+use Rattle.outline.specs.Valid.{ValidBook}
+use Rattle.outline.specs.Questions.{Joins, Cheapest}
 use Rattle.laws.specs.Rides.{AllGood}
 use Rattle.laws.proofs.Tests.{true-not-false}
 use Rattle.laws.proofs.Order.{GoodLinks}
@@ -22,12 +27,12 @@ use Rattle.routes.specs.declared.Step.{Step}
 use Rattle.routes.specs.Held.{ridesOf, Sized, Held, Reached, Extended}
 use Rattle.routes.proofs.Rides.{rides-length}
 use Rattle.cheapest.specs.Onward.{From, Direct, Over, Some, rideTo, nearEnd, farEnd}
-use Rattle.cheapest.proofs.Onward.{good-more}
-use Rattle.cheapest.proofs.Walking.{longer, final-ride, direct-from, over-from, from-splits, near-joins-far}
+use Rattle.cheapest.proofs.Onward.{good-none, good-more}
+use Rattle.cheapest.proofs.Walking.{longer, final-ride, direct-from, over-from, from-splits, near-joins-far, joins-from, from-joins}
 use Rattle.best.specs.declared.Best.{Best}
 use Rattle.best.specs.Kept.{Sound, Improves}
 use Rattle.best.proofs.Improving.{improves-none, improves-same, improves-then}
-use Rattle.search.specs.Steps.{Arrived, Toward, Alighted, beyond}
+use Rattle.search.specs.Steps.{Arrived, Toward, Alighted, Ready, beyond}
 
 -- ---- one ride
 
@@ -130,3 +135,32 @@ module _ (N : Network) (goal : Station) (p : List Leg) (x : Station) where
       (λ R d. direct-from N goal p x R left some good d)
       (λ R o. let e : left - 1 + 1 ≡ left = omega arith in subst (λ (n : ℕ). From N goal n p x R) e (over-from N goal p x R (left - 1) (o .at) (o .holds)))
       (λ R f. from-splits N goal p x R left links f)
+
+-- ---- all of a search
+
+-- what a search may begin with: no ride, and nothing held
+pub begin : (b : List ℕ) (path : Route) (left : ℕ) (best : Best) → ValidBook b → Held (network b) path → ridesOf path ≡ [] → Within 1 left mostRides → best .found ≡ false
+    → Ready b path left best
+begin b path left best valid held none limit new = record {
+  valid = valid;
+  held = held;
+  good = subst (AllGood (network b)) (sym none) (good-none (network b));
+  some = limit .from;
+  room = omega (arith, rides-length path (held .sized), ap length none, limit .to);
+  sound = λ t. absurd (true-not-false (sym t ∙ new));
+}
+
+module _ (N : Network) (q : Question) (b c : Best) (p : List Leg) (left : ℕ) (none : p ≡ []) (all : left ≡ q .limit)
+    (i : Improves N b c (From N (q .to) left p (q .from))) where
+  searched : Improves N b c (From N (q .to) (q .limit) [] (q .from))
+  searched = subst (λ (r : List Leg). Improves N b c (From N (q .to) (q .limit) r (q .from))) none (subst (λ (n : ℕ). Improves N b c (From N (q .to) n p (q .from))) all i)
+
+  pub cheapest-found : b .found ≡ false → c .found ≡ true → q .limit ≤ mostRides → Cheapest N q (ridesOf (c .route))
+  cheapest-found new found most = record {
+    joins = from-joins N q (ridesOf (c .route)) most
+        (⊎-elim (λ h. absurd (true-not-false (sym (h .found) ∙ new))) (λ f. f) (searched .origin (ridesOf (c .route)) (record { found = found; is = refl })));
+    first = λ t j. searched .beats t (joins-from N q t j) .earlier;
+  }
+
+  pub none-found : c .found ≡ false → (t : List Leg) → Joins N q t → ⊥
+  none-found missed t j = true-not-false (sym (searched .beats t (joins-from N q t j) .found) ∙ missed)

@@ -1,17 +1,14 @@
 -- `search::by_rides` and `search::by_links`, which call each other, meet their contracts: the rides left fall.
-use mathlib.Core.Path.{_≡_, refl, sym, subst, _∙_}
-use mathlib.Core.Logic.{_⊎_, inl, inr, ⊎-elim}
+use mathlib.Core.Path.{_≡_, sym, subst}
+use mathlib.Core.Logic.{_⊎_, ⊎-elim}
 use mathlib.Core.List.{List}
 use native.Mathlib.Omega.{arith}
-use borrow.Author.Needs.{needs}
 use Rattle.outline.specs.declared.Station.{Station}
 use Rattle.outline.specs.declared.Leg.{Leg}
 use Rattle.outline.specs.Book.{network}
 use Rattle.laws.proofs.Book.{book-links}
 use Rattle.routes.specs.Held.{ridesOf}
-use Rattle.routes.proofs.Rides.{rides-length}
 use Rattle.cheapest.specs.Onward.{From, Over, Some}
-use Rattle.cheapest.proofs.Walking.{longer}
 use Rattle.best.specs.declared.Best.{Best}
 use Rattle.best.specs.Kept.{Improves}
 use Rattle.best.proofs.Improving.{loop-none, loop-turn}

@@ -1,5 +1,4 @@
 -- `search::to_link` meets its contract.
-use mathlib.Core.Path.{_≡_, sym, ap, subst, _∙_}
 use borrow.Author.Needs.{needs}
 use Rattle.search.proofs.to_link.Statement.{statement}
 use Rattle.search.proofs.to_link.Tie as tie
