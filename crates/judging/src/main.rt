@@ -2,9 +2,10 @@
 // refusal's number and its place. What is no digit is passed over, so that `-` is the empty book. A book is judged by its first 65,536
 // bytes, and a line ends with a line feed.
 mod answers;
-mod digits;
 
 use libc::STDIN_FILENO;
+use text::digits;
+use text::lines;
 
 // Judges the books whose lines end in a block of the input, and answers how many digits the last has that goes on after it.
 fn judge_block(text: &[u8], book: &mut [u8], before: usize) -> usize {
@@ -16,14 +17,14 @@ fn judge_block(text: &[u8], book: &mut [u8], before: usize) -> usize {
     while i < text.len() {
         let x = text[i];
         if x == b'\n' {
-            end = answers::put(out, end, digits::judge(book, count));
+            end = answers::put(out, end, book::judge(digits::made(book, count)));
             count = 0;
         } else {
             count = digits::put(book, count, x);
         }
         i += 1;
     }
-    answers::write(out, end);
+    lines::write(out, end);
     count
 }
 

@@ -1,9 +1,9 @@
--- A route is admissible exactly where it has 1 to 4 rides and each is good after those before it.
-use Prim.Native.Nat.{ℕ, zero, suc, _+_, _-_, _≤_, _<_}
-use mathlib.Core.Path.{_≡_, refl, sym, ap, subst, _∙_}
+-- A route is admissible exactly where it has one to four rides and each is good after those before it.
+use Prim.Native.Nat.{ℕ, zero, suc, _+_, _-_, _*_, _<_}
+use mathlib.Core.Path.{_≡_, refl, sym, ap, _∙_}
 use mathlib.Core.List.{List, [], _∷_}
-use mathlib.Core.Logic.{_↔_, _⊎_, inl, inr, ⊎-elim}
-use native.Mathlib.Numerals.{add-one}
+use mathlib.Core.Logic.{_⊎_, inl, inr, ⊎-elim, _↔_}
+use native.Mathlib.Nat.{not-suc-le-zero}
 use native.Mathlib.Omega.{arith}
 use lib.ListN.{length, getD, take}
 use lib.Seq.{length-take-le, getD-take}
@@ -12,139 +12,146 @@ use Rattle.outline.specs.declared.Leg.{Leg}
 use Rattle.outline.specs.Numbers.{mostRides}
 use Rattle.outline.specs.Tests.{Within}
 use Rattle.outline.specs.Network.{Network}
-use Rattle.outline.specs.Routes.{boardedAt, alightedAt, Change, noRide, rideAt, stationsOf, Distinct, Admissible}
-use Rattle.laws.specs.Rides.{AllGood}
+use Rattle.outline.specs.Routes.{boardedAt, alightedAt, noRide, rideAt, stationsOf, Distinct, Admissible}
 use Rattle.laws.proofs.Tests.{compared}
+use Rattle.laws.specs.Rides.{AllGood}
 use Rattle.laws.proofs.Routes.{Disjoint, GoodRide, next-is}
 
--- ---- the stations of a route
+-- ---- the stations of a route, two to a ride
 
-stationAt : List Leg → ℕ → Station
-stationAt route n = getD (stationsOf route) n (boardedAt noRide)
+abbrev stationAt : List Leg → ℕ → Station
+stationAt route k = getD (stationsOf route) k (boardedAt noRide)
 
-boarded-at : (route : List Leg) (n i : ℕ) → n ≡ i + i → stationAt route n ≡ boardedAt (rideAt route i)
-unfolding stationAt stationsOf
-boarded-at [] n i e = refl
-boarded-at (l ∷ route) zero zero e = refl
-boarded-at (l ∷ route) zero (suc i) e = absurd (omega arith)
-boarded-at (l ∷ route) (suc n) zero e = absurd (omega arith)
-boarded-at (l ∷ route) (suc zero) (suc i) e = absurd (omega arith)
-boarded-at (l ∷ route) (suc (suc n)) (suc i) e = boarded-at route n i (omega arith)
-
-alighted-at : (route : List Leg) (n i : ℕ) → n ≡ i + i + 1 → stationAt route n ≡ alightedAt (rideAt route i)
-unfolding stationAt stationsOf
-alighted-at [] n i e = refl
-alighted-at (l ∷ route) zero i e = absurd (omega arith)
-alighted-at (l ∷ route) (suc zero) zero e = refl
-alighted-at (l ∷ route) (suc zero) (suc i) e = absurd (omega arith)
-alighted-at (l ∷ route) (suc (suc n)) zero e = absurd (omega arith)
-alighted-at (l ∷ route) (suc (suc n)) (suc i) e = alighted-at route n i (omega arith)
-
-stations-length : (route : List Leg) → length (stationsOf route) ≡ length route + length route
+stations-length : (route : List Leg) → length (stationsOf route) ≡ 2 * length route
 unfolding stationsOf
 stations-length [] = refl
 stations-length (l ∷ route) = let e = stations-length route in omega arith
 
--- a station's number is that of a ride's boarding or alighting station
-halves : (n : ℕ) → (i : ℕ) × ((n ≡ i + i) ⊎ (n ≡ i + i + 1))
-halves zero = (0, inl refl)
-halves (suc n) = go (halves n)
+boarded-station : (route : List Leg) (i : ℕ) → i < length route → stationAt route (2 * i) ≡ boardedAt (rideAt route i)
+unfolding stationsOf
+boarded-station [] i h = absurd (not-suc-le-zero h)
+boarded-station (l ∷ route) zero h = refl
+boarded-station (l ∷ route) (suc i) h = let e : 2 * suc i ≡ suc (suc (2 * i)) = omega arith in rw e (boarded-station route i (omega arith))
+
+alighted-station : (route : List Leg) (i : ℕ) → i < length route → stationAt route (2 * i + 1) ≡ alightedAt (rideAt route i)
+unfolding stationsOf
+alighted-station [] i h = absurd (not-suc-le-zero h)
+alighted-station (l ∷ route) zero h = refl
+alighted-station (l ∷ route) (suc i) h = let e : 2 * suc i + 1 ≡ suc (suc (2 * i + 1)) = omega arith in rw e (alighted-station route i (omega arith))
+
+-- place k is that of a ride's boarding or of its alighting station
+record Half (k : ℕ) : Type 0 where
+  ride : ℕ
+  which : (k ≡ 2 * ride) ⊎ (k ≡ 2 * ride + 1)
+
+half : (k : ℕ) → Half k
+half zero = record { ride = 0; which = inl refl }
+half (suc k) = go (half k)
   where
-    go : (i : ℕ) × ((n ≡ i + i) ⊎ (n ≡ i + i + 1)) → (i : ℕ) × ((suc n ≡ i + i) ⊎ (suc n ≡ i + i + 1))
-    go (i, inl e) = (i, inr (omega arith))
-    go (i, inr e) = (suc i, inl (omega arith))
+    go : Half k → Half (suc k)
+    go h = ⊎-elim (λ e. record { ride = h .ride; which = inr (omega arith) }) (λ e. record { ride = suc (h .ride); which = inl (omega arith) }) (h .which)
 
--- ---- an admissible route
+-- no two rides have a station in common, and no ride ends where it begins
+pub record Separate (route : List Leg) : Type 0 where
+  pub rides : (i : ℕ) → i < length route → boardedAt (rideAt route i) ≡ alightedAt (rideAt route i) → ⊥
+  pub others : (j i : ℕ) → j < i → i < length route → Disjoint (rideAt route j) (rideAt route i)
 
-module _ (N : Network) (route : List Leg) where
-  front-ride : (i j : ℕ) → j < i → rideAt (take i route) j ≡ rideAt route j
-  front-ride i j h = getD-take i route j noRide h
+pub distinct-is : (route : List Leg) → Distinct (stationsOf route) ↔ Separate route
+distinct-is route = (tells, holds)
+  where
+    long : length (stationsOf route) ≡ 2 * length route
+    long = stations-length route
 
-  front-length : (i : ℕ) → i ≤ length route → length (take i route) ≡ i
-  front-length i h = length-take-le i route h
+    tells : Distinct (stationsOf route) → Separate route
+    tells d = record {
+      rides = λ i h e.
+          let l = long in
+          d (2 * i) (2 * i + 1) (omega arith) (omega arith) (boarded-station route i h ∙ e ∙ sym (alighted-station route i h));
+      others = λ j i k h.
+          let l = long in
+          let g : j < length route = omega arith in
+          record {
+            boarding = λ e. d (2 * j) (2 * i) (omega arith) (omega arith) (boarded-station route j g ∙ e ∙ sym (boarded-station route i h));
+            alighting = λ e. d (2 * j + 1) (2 * i + 1) (omega arith) (omega arith) (alighted-station route j g ∙ e ∙ sym (alighted-station route i h));
+            onward = λ e. d (2 * j + 1) (2 * i) (omega arith) (omega arith) (alighted-station route j g ∙ e ∙ sym (boarded-station route i h));
+            back = λ e. d (2 * j) (2 * i + 1) (omega arith) (omega arith) (boarded-station route j g ∙ e ∙ sym (alighted-station route i h));
+          };
+    }
 
-  -- the last ride before ride i + 1 is ride i
-  before-last : (i : ℕ) → i < length route → rideAt (take (i + 1) route) (length (take (i + 1) route) - 1) ≡ rideAt route i
-  before-last i h =
-      let long = front-length (i + 1) (omega arith) in
-      let n : length (take (i + 1) route) - 1 ≡ i = omega arith in
-      ap (rideAt (take (i + 1) route)) n ∙ front-ride (i + 1) i (omega arith)
+    -- the station at place x, by its ride
+    at : (x : ℕ) (p : Half x) → p .ride < length route
+        → ((x ≡ 2 * p .ride) × (stationAt route x ≡ boardedAt (rideAt route (p .ride)))) ⊎ ((x ≡ 2 * p .ride + 1) × (stationAt route x ≡ alightedAt (rideAt route (p .ride))))
+    at x p h = ⊎-elim
+        (λ e. inl (e, ap (stationAt route) e ∙ boarded-station route (p .ride) h))
+        (λ e. inr (e, ap (stationAt route) e ∙ alighted-station route (p .ride) h)) (p .which)
 
-  module _ (a : Admissible N route) where
-    apart : (i j : ℕ) → i < j → j < length route → Disjoint (rideAt route i) (rideAt route j)
-    unfolding stationAt
-    apart i j h k =
-        let long = stations-length route in
-        record {
-          boarding = λ e. a .once (i + i) (j + j) (omega arith) (omega arith) (boarded-at route (i + i) i refl ∙ e ∙ sym (boarded-at route (j + j) j refl));
-          alighting = λ e. a .once (i + i + 1) (j + j + 1) (omega arith) (omega arith) (alighted-at route (i + i + 1) i refl ∙ e ∙ sym (alighted-at route (j + j + 1) j refl));
-          onward = λ e. a .once (i + i + 1) (j + j) (omega arith) (omega arith) (alighted-at route (i + i + 1) i refl ∙ e ∙ sym (boarded-at route (j + j) j refl));
-          back = λ e. a .once (i + i) (j + j + 1) (omega arith) (omega arith) (boarded-at route (i + i) i refl ∙ e ∙ sym (alighted-at route (j + j + 1) j refl));
-        }
+    holds : Separate route → Distinct (stationsOf route)
+    holds s x y l h e =
+        let n = long in
+        let p = half x in
+        let q = half y in
+        let a : p .ride < length route = ⊎-elim (λ u. omega arith) (λ u. omega arith) (p .which) in
+        let b : q .ride < length route = ⊎-elim (λ u. omega arith) (λ u. omega arith) (q .which) in
+        ⊎-elim
+        (λ u. ⊎-elim
+        (λ v. ⊎-elim (λ k. s .others _ _ k b .boarding (sym (u .1) ∙ e ∙ v .1)) (λ k. ⊎-elim (λ z. omega (arith, u .0, v .0)) (λ z. omega (arith, u .0, v .0)) k) (compared (p .ride) (q .ride)))
+        (λ v. ⊎-elim (λ k. s .others _ _ k b .back (sym (u .1) ∙ e ∙ v .1))
+        (λ k. ⊎-elim (λ z. s .rides _ b (ap (λ (i : ℕ). boardedAt (rideAt route i)) (sym z) ∙ sym (u .1) ∙ e ∙ v .1)) (λ z. omega (arith, u .0, v .0)) k) (compared (p .ride) (q .ride)))
+        (at y q b))
+        (λ u. ⊎-elim
+        (λ v. ⊎-elim (λ k. s .others _ _ k b .onward (sym (u .1) ∙ e ∙ v .1)) (λ k. ⊎-elim (λ z. omega (arith, u .0, v .0)) (λ z. omega (arith, u .0, v .0)) k) (compared (p .ride) (q .ride)))
+        (λ v. ⊎-elim (λ k. s .others _ _ k b .alighting (sym (u .1) ∙ e ∙ v .1)) (λ k. ⊎-elim (λ z. omega (arith, u .0, v .0)) (λ z. omega (arith, u .0, v .0)) k) (compared (p .ride) (q .ride)))
+        (at y q b))
+        (at x p a)
 
-    follows : (i : ℕ) → i < length route → 0 < length (take i route) → Change N (alightedAt (rideAt (take i route) (length (take i route) - 1))) (boardedAt (rideAt route i))
-    follows zero h some = absurd (omega arith)
-    follows (suc i) h some =
-        subst (λ (n : ℕ). Change N (alightedAt (rideAt (take n route) (length (take n route) - 1))) (boardedAt (rideAt route n))) (add-one i)
-        (subst (λ (l : Leg). Change N (alightedAt l) (boardedAt (rideAt route (i + 1)))) (sym (before-last i (omega arith))) (a .changes i (omega arith)))
+-- ---- the theorem
 
-    all-good : AllGood N route
-    all-good i h = next-is N (take i route) (rideAt route i) .1 (record {
-      exists = a .rides i h;
-      follows = follows i h;
-      fresh = λ j k.
-          let long = front-length i (omega arith) in
-          subst (λ (l : Leg). Disjoint l (rideAt route i)) (sym (front-ride i j (omega arith))) (apart j i (omega arith) h);
-    })
+-- ride i is good after those before it
+abbrev pub GoodAt : Network → List Leg → ℕ → Type 0
+GoodAt N route i = GoodRide N (take i route) (rideAt route i)
 
-  module _ (good : AllGood N route) where
-    ride : (i : ℕ) (h : i < length route) → GoodRide N (take i route) (rideAt route i)
-    ride i h = next-is N (take i route) (rideAt route i) .0 (good i h)
+abbrev pub GoodRides : Network → List Leg → Type 0
+GoodRides N route = (i : ℕ) → i < length route → GoodAt N route i
 
-    changes : (i : ℕ) → i + 1 < length route → Change N (alightedAt (rideAt route i)) (boardedAt (rideAt route (i + 1)))
-    changes i h =
-        let long = front-length (i + 1) (omega arith) in
-        subst (λ (l : Leg). Change N (alightedAt l) (boardedAt (rideAt route (i + 1)))) (before-last i (omega arith)) (ride (i + 1) h .follows (omega arith))
+pub admissible-is : (N : Network) (route : List Leg) → Admissible N route ↔ (Within 1 (length route) mostRides × GoodRides N route)
+admissible-is N route = (tells, holds)
+  where
+    tells : Admissible N route → Within 1 (length route) mostRides × GoodRides N route
+    tells a = (
+      a .few,
+      λ i h. record {
+        exists = a .rides i h;
+        follows = λ some.
+            let n = length-take-le i route (omega arith) in
+            let last : length (take i route) - 1 ≡ i - 1 = omega arith in
+            let next : i - 1 + 1 ≡ i = omega arith in
+            let change = rw next at (a .changes (i - 1) (omega arith)) in
+            rw (last, getD-take i route (i - 1) noRide (omega arith)) change;
+        fresh = λ j k.
+            let n = length-take-le i route (omega arith) in
+            rw (getD-take i route j noRide (omega arith)) (distinct-is route .0 (a .once) .others j i (omega arith) h);
+      },
+    )
 
-    disjoint : (i j : ℕ) → i < j → j < length route → Disjoint (rideAt route i) (rideAt route j)
-    disjoint i j h k =
-        let long = front-length j (omega arith) in
-        subst (λ (l : Leg). Disjoint l (rideAt route j)) (front-ride j i h) (ride j k .fresh i (omega arith))
+    holds : Within 1 (length route) mostRides × GoodRides N route → Admissible N route
+    holds g = record {
+      few = g .0;
+      rides = λ i h. g .1 i h .exists;
+      changes = λ i h.
+          let n = length-take-le (i + 1) route (omega arith) in
+          let last : length (take (i + 1) route) - 1 ≡ i = omega arith in
+          rw (last, getD-take (i + 1) route i noRide (omega arith)) at (g .1 (i + 1) h .follows (omega arith));
+      once = distinct-is route .1 (record {
+        rides = λ i h e. g .1 i h .exists .different (ap (λ (x : Station). x .number) e);
+        others = λ j i k h.
+            let n = length-take-le i route (omega arith) in
+            rw (getD-take i route j noRide k) at (g .1 i h .fresh j (omega arith));
+      });
+    }
 
-    -- the stations of one ride differ
-    moves : (i : ℕ) → i < length route → boardedAt (rideAt route i) ≡ alightedAt (rideAt route i) → ⊥
-    moves i h e = ride i h .exists .different (ap (λ (x : Station). x .number) e)
-
-    once : Distinct (stationsOf route)
-    unfolding stationAt
-    once a b h k e =
-        let (i, ai) = halves a in
-        let (j, bj) = halves b in
-        ⊎-elim (before i j ai bj) (⊎-elim (same i j ai bj) (λ l. after i j ai bj l)) (compared i j)
-      where
-        long : length (stationsOf route) ≡ length route + length route
-        long = stations-length route
-
-        after : (i j : ℕ) → (a ≡ i + i) ⊎ (a ≡ i + i + 1) → (b ≡ j + j) ⊎ (b ≡ j + j + 1) → j < i → ⊥
-        after i j (inl p) (inl q) l = omega arith
-        after i j (inl p) (inr q) l = omega arith
-        after i j (inr p) (inl q) l = omega arith
-        after i j (inr p) (inr q) l = omega arith
-
-        same : (i j : ℕ) → (a ≡ i + i) ⊎ (a ≡ i + i + 1) → (b ≡ j + j) ⊎ (b ≡ j + j + 1) → i ≡ j → ⊥
-        same i j (inl p) (inl q) s = omega arith
-        same i j (inl p) (inr q) s = moves i (omega (arith, long)) (sym (boarded-at route a i p) ∙ e ∙ alighted-at route b i (omega arith))
-        same i j (inr p) (inl q) s = omega arith
-        same i j (inr p) (inr q) s = omega arith
-
-        before : (i j : ℕ) → (a ≡ i + i) ⊎ (a ≡ i + i + 1) → (b ≡ j + j) ⊎ (b ≡ j + j + 1) → i < j → ⊥
-        before i j (inl p) (inl q) l = disjoint i j l (omega (arith, long)) .boarding (sym (boarded-at route a i p) ∙ e ∙ boarded-at route b j q)
-        before i j (inl p) (inr q) l = disjoint i j l (omega (arith, long)) .back (sym (boarded-at route a i p) ∙ e ∙ alighted-at route b j q)
-        before i j (inr p) (inl q) l = disjoint i j l (omega (arith, long)) .onward (sym (alighted-at route a i p) ∙ e ∙ boarded-at route b j q)
-        before i j (inr p) (inr q) l = disjoint i j l (omega (arith, long)) .alighting (sym (alighted-at route a i p) ∙ e ∙ alighted-at route b j q)
-
-  pub admissible-good : Admissible N route ↔ (Within 1 (length route) mostRides × AllGood N route)
-  admissible-good = (
-    λ a. (a .few, all-good a),
-    λ g. record { few = g .0; rides = λ i h. ride (g .1) i h .exists; changes = changes (g .1); once = once (g .1) },
-  )
+-- the same, by the tests of a given route's rides
+pub admissible-good : (N : Network) (route : List Leg) → Admissible N route ↔ (Within 1 (length route) mostRides × AllGood N route)
+admissible-good N route = (
+  λ a. let g = admissible-is N route .0 a in (g .0, λ i h. next-is N (take i route) (rideAt route i) .1 (g .1 i h)),
+  λ g. admissible-is N route .1 (g .0, λ i h. next-is N (take i route) (rideAt route i) .0 (g .1 i h)),
+)

@@ -1,11 +1,11 @@
 -- What the rides of a valid book cost: 1 to 9,999 yen each.
-use Prim.Native.Nat.{ℕ, zero, suc, _+_, _*_, _≤_, _<_}
-use mathlib.Core.Path.{_≡_, refl, sym, ap, _∙_}
+use Prim.Native.Nat.{ℕ, zero, suc, _*_, _≤_, _<_}
+use mathlib.Core.Path.{_≡_, refl}
 use mathlib.Core.List.{List, [], _∷_}
 use native.Mathlib.Omega.{arith}
 use lib.ListN.{length}
 use Rattle.outline.specs.declared.Leg.{Leg}
-use Rattle.outline.specs.declared.Entry.the-variants.{NotSold, Sold}
+use Rattle.outline.specs.declared.Entry.the-variants.{NotSold}
 use Rattle.outline.specs.Numbers.{mostFare}
 use Rattle.outline.specs.Tests.{Within}
 use Rattle.outline.specs.Fares.{fareAt, tableAt}

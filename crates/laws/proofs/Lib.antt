@@ -11,3 +11,4 @@ pub mod Routes
 pub mod Given
 pub mod Entries
 pub mod Admissible
+pub mod GivenRoutes

@@ -1,16 +1,13 @@
 -- What a rule earns on a run is less than what the run costs.
 use Prim.Native.Nat.{ℕ, _<_}
-use mathlib.Core.Path.{_≡_, refl, sym, ap, _∙_}
+use mathlib.Core.Path.{_≡_, refl, sym, _∙_}
 use mathlib.Core.Bool.{Bool, true, false}
 use mathlib.Core.List.{List}
 use native.Mathlib.Omega.{arith}
-use lib.Dec.{ltb}
 use borrow.Author.Tests.{ltb-true}
 use Rattle.outline.specs.declared.Leg.{Leg}
-use Rattle.outline.specs.declared.Saving.{Saving}
 use Rattle.outline.specs.declared.Saving.the-variants.{Nothing, Yen}
 use Rattle.outline.specs.declared.Reason.{Reason}
-use Rattle.outline.specs.declared.Reason.the-variants.{WrongRides, WrongCompanies, NotBoarded, NotAlighted, NotPermitted, NotDearer, Earned}
 use Rattle.outline.specs.Network.{Network}
 use Rattle.outline.specs.Matching.{runOf, sumOf, unless, reasonOf, savingOf, earns}
 use Rattle.outline.specs.Price.{earnOn}

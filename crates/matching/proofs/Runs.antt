@@ -1,20 +1,18 @@
 -- The rides of a run, what they cost, and the links between them.
 use Prim.Native.Nat.{ℕ, _+_, _-_, _*_, _≤_, _<_}
-use mathlib.Core.Path.{_≡_, refl, sym, ap, subst, _∙_}
+use mathlib.Core.Path.{_≡_, sym, ap, _∙_}
 use mathlib.Core.Bool.{Bool}
-use mathlib.Core.List.{List, [], _∷_, _++_}
+use mathlib.Core.List.{List, [], _∷_}
 use native.Mathlib.Numerals.{add-one}
 use native.Mathlib.Omega.{arith}
 use lib.ListN.{length, getD, take, drop, length-drop}
 use lib.Seq.{length-take-le, getD-take, getD-drop, take-suc}
 use Rattle.outline.specs.declared.Leg.{Leg}
-use Rattle.outline.specs.declared.Entry.{Entry}
-use Rattle.outline.specs.declared.Entry.the-variants.{Sold}
 use Rattle.outline.specs.declared.Joined.the-variants.{ByLink}
-use Rattle.outline.specs.Network.{Network, linkBetween}
-use Rattle.outline.specs.Routes.{entryFor, Exists, noRide, rideAt, boardedAt, alightedAt, linkAfter}
+use Rattle.outline.specs.Network.{Network}
+use Rattle.outline.specs.Routes.{entryFor, Exists, noRide, rideAt, linkAfter}
 use Rattle.outline.specs.Fares.{Rule, inMap}
-use Rattle.outline.specs.Matching.{runOf, yenOf, sumOf, boards, alights, permits}
+use Rattle.outline.specs.Matching.{yenOf, sumOf, boards, alights, permits}
 use Rattle.routes.specs.declared.Route.{Route}
 use Rattle.routes.specs.Held.{ridesOf, Sized, Held}
 use Rattle.routes.proofs.Rides.{rides-length, rides-at}

@@ -1,6 +1,5 @@
 -- A run of a route that is held, and the later tests of a rule on it.
 use Prim.Native.Nat.{ℕ, _+_, _≤_, _<_}
-use mathlib.Core.Path.{_≡_}
 use mathlib.Core.List.{List}
 use lib.Dec.{ltb}
 use Rattle.outline.specs.declared.Leg.{Leg}
@@ -12,7 +11,7 @@ use Rattle.outline.specs.Book.{network}
 use Rattle.outline.specs.Valid.{LaidOut}
 use Rattle.outline.specs.Matching.{runOf, sumOf, boards, alights, permitted, unless}
 use Rattle.routes.specs.declared.Route.{Route}
-use Rattle.routes.specs.Held.{ridesOf, Sized, Held}
+use Rattle.routes.specs.Held.{ridesOf, Held}
 
 abbrev pub runIn : Route → ℕ → ℕ → List Leg
 runIn r first rides = runOf (ridesOf r) first rides

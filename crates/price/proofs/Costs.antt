@@ -1,25 +1,22 @@
 -- The fare: what the selection earns is no more than the rides cost, and the difference fits.
 use Prim.Native.Nat.{ℕ, _*_, _-_, _≤_, _<_}
-use mathlib.Core.Path.{_≡_, refl, sym, ap, subst, _∙_}
+use mathlib.Core.Path.{_≡_, ap, _∙_}
 use mathlib.Core.List.{List}
 use native.Mathlib.Omega.{arith}
-use lib.ListN.{length, take}
 use lib.Seq.{take-take}
-use Rattle.outline.specs.declared.Run.{Run}
 use Rattle.outline.specs.Numbers.{mostFare}
-use Rattle.outline.specs.Network.{Network}
 use Rattle.outline.specs.Book.{network}
 use Rattle.outline.specs.Matching.{sumOf}
-use Rattle.outline.specs.Selections.{Best, total}
+use Rattle.outline.specs.Selections.{total}
 use Rattle.outline.specs.Routes.{noRide}
-use Rattle.outline.specs.Price.{earnOn, runsOf, fareWith, fareOf}
+use Rattle.outline.specs.Price.{runsOf, fareWith, fareOf}
 use Rattle.routes.specs.declared.Route.{Route}
 use Rattle.routes.specs.Held.{ridesOf}
 use Rattle.routes.proofs.Rides.{rides-length, rides-at}
 use Rattle.matching.specs.Runs.{runIn}
 use Rattle.matching.proofs.Frugal.{frugal}
 use Rattle.selection.specs.declared.Selection.{Selection}
-use Rattle.selection.specs.Chosen.{earnIn, runsIn, Chosen}
+use Rattle.selection.specs.Chosen.{earnIn, Chosen}
 use Rattle.choice.proofs.Totals.{total-most}
 use Rattle.choice.proofs.Priced.{runs-best}
 use Rattle.laws.proofs.Entries.{AllExist, sum-within}

@@ -1,10 +1,9 @@
 -- The places of the answer.
 use Prim.Native.Nat.{ℕ, _≤_, _<_}
-use mathlib.Core.Path.{_≡_, refl, sym, ap, _∙_}
+use mathlib.Core.Path.{_≡_, ap, _∙_}
 use mathlib.Core.List.{List, [], _∷_}
 use native.Mathlib.Omega.{arith}
 use lib.ListN.{length, take, getD}
-use lib.Dec.{ltb}
 use borrow.Author.Tests.{lt-ltb, le-ltb}
 use Rattle.outline.specs.declared.Leg.{Leg}
 use Rattle.outline.specs.declared.Run.{Run}
@@ -15,7 +14,6 @@ use Rattle.outline.specs.declared.Answer.{Answer}
 use Rattle.outline.specs.declared.Judged.the-variants.{Good}
 use Rattle.outline.specs.Tests.{choose}
 use Rattle.outline.specs.Network.{Network}
-use Rattle.outline.specs.Routes.{rideAt}
 use Rattle.outline.specs.Price.{fareOf, runsOf, belongs, paidBy, paidRide, unused, placeAt, answerWith, answerOf}
 use Rattle.routes.specs.declared.Route.{Route}
 use Rattle.routes.specs.Held.{ridesOf, Sized}

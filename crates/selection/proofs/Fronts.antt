@@ -1,11 +1,10 @@
 -- A selection as the code holds it: with a run in front, and rather than another.
-use Prim.Native.Nat.{ℕ, zero, suc, _+_, _*_, _≤_, _<_}
+use Prim.Native.Nat.{ℕ, zero, suc, _+_, _≤_, _<_}
 use mathlib.Core.Path.{_≡_, refl, sym, ap, subst, _∙_}
 use mathlib.Core.Bool.{Bool, true, false}
 use mathlib.Core.List.{List, [], _∷_}
 use native.Mathlib.Omega.{arith}
 use lib.ListN.{length, take}
-use lib.Dec.{ltb, leb}
 use lib.Seq.{length-take-le}
 use Rattle.outline.specs.declared.Run.{Run}
 use Rattle.outline.specs.declared.Payer.{Payer}

@@ -2,11 +2,10 @@
 use Prim.Native.Nat.{ℕ, _*_, _≤_}
 use mathlib.Core.Path.{_≡_}
 use mathlib.Core.List.{List, [], _∷_}
-use lib.ListN.{length, take}
+use lib.ListN.{take}
 use lib.Dec.{ltb, leb}
 use Rattle.outline.specs.declared.Run.{Run}
 use Rattle.outline.specs.Tests.{choose}
-use Rattle.outline.specs.Network.{Network}
 use Rattle.outline.specs.Book.{network}
 use Rattle.outline.specs.Valid.{LaidOut}
 use Rattle.outline.specs.Selections.{Earn, total}

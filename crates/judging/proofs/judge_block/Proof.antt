@@ -25,6 +25,9 @@ loop-holds c = search needs
 shared-slice-read-x : tie.Need-shared-slice-read-x Inv-loop μ-loop
 shared-slice-read-x c = search needs
 
+made-requires : tie.Need-made-requires Inv-loop μ-loop
+made-requires c κs = search needs
+
 judge-requires : tie.Need-judge-requires Inv-loop μ-loop
 judge-requires c κs = search needs
 
@@ -62,6 +65,7 @@ judge-block-spec =
     slice-aggregate-out
     loop-holds
     shared-slice-read-x
+    made-requires
     judge-requires
     put-requires
     put-requires-2

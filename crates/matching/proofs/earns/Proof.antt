@@ -1,5 +1,5 @@
-use Rattle.outline.specs.Matching.{savingOf, earns}
-use mathlib.Core.Path.{_≡_, refl, sym, ap, _∙_}
+-- `matching::earns` meets its contract.
+use Rattle.outline.specs.Matching.{earns}
 use borrow.Author.Needs.{needs}
 use Rattle.matching.proofs.earns.Statement.{statement}
 use Rattle.matching.proofs.earns.Tie as tie

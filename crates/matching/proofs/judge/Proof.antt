@@ -1,9 +1,9 @@
+-- `matching::judge` meets its contract.
 use Rattle.matching.proofs.Runs.{run-length}
 use Rattle.outline.specs.Matching.{unless, reasonOf}
-use borrow.Author.Tests.{le-ltb, lt-ltb, le-leb, lt-leb, eq-eqb, ne-eqb}
+use borrow.Author.Tests.{eq-eqb, ne-eqb}
 use borrow.Author.Tests.{not-true, not-false}
-use native.Mathlib.Omega.{arith}
-use mathlib.Core.Path.{_≡_, refl, sym, ap, _∙_}
+use mathlib.Core.Path.{sym, _∙_}
 use borrow.Author.Needs.{needs}
 use Rattle.matching.proofs.judge.Statement.{statement}
 use Rattle.matching.proofs.judge.Tie as tie

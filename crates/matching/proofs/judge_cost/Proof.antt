@@ -1,8 +1,8 @@
+-- `matching::judge_cost` meets its contract.
 use Rattle.outline.specs.Matching.{unless}
-use borrow.Author.Tests.{le-ltb, lt-ltb, le-leb, lt-leb, eq-eqb, ne-eqb}
+use borrow.Author.Tests.{le-ltb, lt-ltb}
 use borrow.Author.Tests.{not-true, not-false}
-use native.Mathlib.Omega.{arith}
-use mathlib.Core.Path.{_≡_, refl, sym, ap, _∙_}
+use mathlib.Core.Path.{sym, _∙_}
 use borrow.Author.Needs.{needs}
 use Rattle.matching.proofs.judge_cost.Statement.{statement}
 use Rattle.matching.proofs.judge_cost.Tie as tie

@@ -1,8 +1,8 @@
+-- `matching::judge_ends` meets its contract.
 use Rattle.matching.proofs.Runs.{first-in, last-in, boards-is, alights-is}
 use Rattle.outline.specs.Matching.{unless}
 use borrow.Author.Tests.{not-true, not-false}
-use native.Mathlib.Omega.{arith}
-use mathlib.Core.Path.{_≡_, refl, sym, ap, _∙_}
+use mathlib.Core.Path.{_∙_}
 use borrow.Author.Needs.{needs}
 use Rattle.matching.proofs.judge_ends.Statement.{statement}
 use Rattle.matching.proofs.judge_ends.Tie as tie

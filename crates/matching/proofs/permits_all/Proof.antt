@@ -1,21 +1,19 @@
+-- `matching::permits_all` meets its contract.
 use Rattle.matching.proofs.Runs.{run-length, run-link-known, run-permits}
 use Rattle.laws.proofs.Reading.{rule-sized, links-few}
 use Rattle.laws.proofs.Tests.{all-more, all-stops}
 use Rattle.matching.specs.Runs.{runIn}
 use Rattle.outline.specs.Matching.{permits, permitted}
 use Rattle.outline.specs.Routes.{linkAfter}
-use Rattle.outline.specs.Fares.{inMap}
 use Rattle.outline.specs.Book.{network}
 use Rattle.outline.specs.Tests.{allBelow}
-use lib.ListN.{length, getD}
-use mathlib.Core.List.{List}
+use lib.ListN.{length}
 use mathlib.Core.Bool.{true}
-use denote.Ref.{now}
 use borrow.Author.Tests.{not-true, not-false}
 use borrow.Author.Needs.{needs}
-use Prim.Native.Nat.{ℕ, _+_, _*_, _-_, _≤_, _<_}
+use Prim.Native.Nat.{ℕ, _+_, _-_, _≤_, _<_}
 use native.Mathlib.Omega.{arith}
-use mathlib.Core.Path.{_≡_, refl, sym, ap, _∙_}
+use mathlib.Core.Path.{_≡_, refl, sym, _∙_}
 use Rattle.matching.proofs.permits_all.Statement.{statement}
 use Rattle.matching.proofs.permits_all.Tie as tie
 

@@ -1,3 +1,4 @@
+-- `matching::same_companies` meets its contract.
 use Rattle.matching.proofs.Runs.{run-length, run-at}
 use Rattle.laws.proofs.Reading.{rule-sized}
 use Rattle.laws.proofs.Tests.{all-more, all-stops}
@@ -12,10 +13,9 @@ use lib.ListN.{length, getD}
 use lib.Dec.{eqb}
 use mathlib.Core.List.{List}
 use mathlib.Core.Bool.{true}
-use denote.Ref.{now}
-use borrow.Author.Tests.{le-ltb, lt-ltb, le-leb, lt-leb, eq-eqb, ne-eqb}
+use borrow.Author.Tests.{eq-eqb, ne-eqb}
 use borrow.Author.Needs.{needs}
-use Prim.Native.Nat.{ℕ, _+_, _*_, _-_, _≤_, _<_}
+use Prim.Native.Nat.{ℕ, _-_, _≤_, _<_}
 use native.Mathlib.Omega.{arith}
 use mathlib.Core.Path.{_≡_, refl, sym, ap, _∙_}
 use Rattle.matching.proofs.same_companies.Statement.{statement}

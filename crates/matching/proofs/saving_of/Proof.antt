@@ -1,4 +1,4 @@
-use mathlib.Core.Path.{_≡_, refl, sym, ap, _∙_}
+-- `matching::saving_of` meets its contract.
 use borrow.Author.Needs.{needs}
 use Rattle.matching.proofs.saving_of.Statement.{statement}
 use Rattle.matching.proofs.saving_of.Tie as tie

@@ -1,3 +1,4 @@
+-- `matching::sum_of` meets its contract.
 use Rattle.matching.proofs.Runs.{sum-turn}
 use Rattle.matching.specs.Runs.{runIn}
 use Rattle.routes.specs.Held.{Held}
@@ -6,7 +7,7 @@ use Rattle.outline.specs.Network.{Network}
 use borrow.Author.Needs.{needs}
 use Prim.Native.Nat.{ℕ, _+_, _*_, _-_, _≤_, _<_}
 use native.Mathlib.Omega.{arith}
-use mathlib.Core.Path.{_≡_, refl, sym, ap, _∙_}
+use mathlib.Core.Path.{_≡_, refl, ap, _∙_}
 use Rattle.matching.proofs.sum_of.Statement.{statement}
 use Rattle.matching.proofs.sum_of.Tie as tie
 

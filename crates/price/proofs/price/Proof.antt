@@ -1,7 +1,8 @@
+-- `price::price` meets its contract.
 use Rattle.laws.proofs.Judging.{book-good}
 use Rattle.outline.specs.Price.{answerTo, priceOf}
 use Rattle.outline.specs.Refusals.{_andThen_}
-use mathlib.Core.Path.{_≡_, refl, sym, ap, _∙_}
+use mathlib.Core.Path.{sym, _∙_}
 use borrow.Author.Needs.{needs}
 use Rattle.price.proofs.price.Statement.{statement}
 use Rattle.price.proofs.price.Tie as tie

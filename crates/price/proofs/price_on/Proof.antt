@@ -1,7 +1,8 @@
+-- `price::price_on` meets its contract.
 use denote.Ref.{now}
 use Rattle.outline.specs.Book.{network}
 use Rattle.outline.specs.Price.{answerTo, answerOf}
-use mathlib.Core.Path.{_≡_, refl, sym, ap, _∙_}
+use mathlib.Core.Path.{ap, _∙_}
 use borrow.Author.Needs.{needs}
 use Rattle.price.proofs.price_on.Statement.{statement}
 use Rattle.price.proofs.price_on.Tie as tie

@@ -1,5 +1,5 @@
 -- `questions::judge` meets its contract.
-use mathlib.Core.Path.{_≡_, sym, _∙_}
+use mathlib.Core.Path.{sym, _∙_}
 use borrow.Author.Tests.{not-true, not-false, le-leb, lt-leb}
 use Rattle.outline.specs.Tests.{both, within}
 use Rattle.outline.specs.Refusals.{demand}

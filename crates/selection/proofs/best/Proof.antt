@@ -1,14 +1,14 @@
+-- `selection::best` meets its contract.
 use Rattle.selection.proofs.Fronts.{sound-two, few-none, of-count}
 use Rattle.routes.proofs.Rides.{rides-length}
 use Rattle.routes.specs.Held.{ridesOf}
 use Rattle.outline.specs.Price.{runsOf}
 use lib.ListN.{length}
 use Rattle.selection.specs.Chosen.{earnIn}
-use Rattle.outline.specs.Book.{network}
 use denote.Ref.{now}
-use Prim.Native.Nat.{ℕ, _+_, _*_, _-_, _≤_, _<_}
+use Prim.Native.Nat.{_-_, _<_}
 use native.Mathlib.Omega.{arith}
-use mathlib.Core.Path.{_≡_, refl, sym, ap, _∙_}
+use mathlib.Core.Path.{_≡_, sym, _∙_}
 use borrow.Author.Needs.{needs}
 use Rattle.selection.proofs.best.Statement.{statement}
 use Rattle.selection.proofs.best.Tie as tie

@@ -1,12 +1,12 @@
+-- `selection::best_rule` meets its contract.
 use Rattle.choice.proofs.Rules.{rule-again}
 use Rattle.selection.specs.Chosen.{earnIn}
 use Rattle.outline.specs.Choosing.{bestRule}
-use Rattle.outline.specs.Book.{network}
 use denote.Ref.{now}
 use borrow.Author.Needs.{needs}
-use Prim.Native.Nat.{ℕ, _+_, _*_, _-_, _≤_, _<_}
+use Prim.Native.Nat.{_-_, _≤_}
 use native.Mathlib.Omega.{arith}
-use mathlib.Core.Path.{_≡_, refl, sym, ap, _∙_}
+use mathlib.Core.Path.{_≡_, refl, ap, _∙_}
 use Rattle.selection.proofs.best_rule.Statement.{statement}
 use Rattle.selection.proofs.best_rule.Tie as tie
 

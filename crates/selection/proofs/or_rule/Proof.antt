@@ -1,6 +1,6 @@
+-- `selection::or_rule` meets its contract.
 use Rattle.choice.proofs.Rules.{or-new, or-more, or-held}
 use Rattle.outline.specs.Choosing.{orRule}
-use mathlib.Core.Path.{_≡_, refl, sym, ap, _∙_}
 use borrow.Author.Needs.{needs}
 use Rattle.selection.proofs.or_rule.Statement.{statement}
 use Rattle.selection.proofs.or_rule.Tie as tie

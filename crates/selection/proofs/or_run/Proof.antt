@@ -1,3 +1,4 @@
+-- `selection::or_run` meets its contract.
 use Rattle.selection.proofs.Fronts.{none-pays, one-pays}
 use Rattle.selection.specs.Chosen.{earnIn}
 use Rattle.outline.specs.Book.{network}

@@ -1,7 +1,7 @@
+-- `price::answers::answer` meets its contract.
 use Rattle.price.proofs.Places.{answer-is}
 use Rattle.routes.proofs.Rides.{rides-length}
-use native.Mathlib.Omega.{arith}
-use mathlib.Core.Path.{_≡_, refl, sym, ap, _∙_}
+use mathlib.Core.Path.{sym}
 use borrow.Author.Needs.{needs}
 use Rattle.price.proofs.answers.answer.Statement.{statement}
 use Rattle.price.proofs.answers.answer.Tie as tie

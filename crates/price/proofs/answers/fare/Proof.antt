@@ -1,6 +1,6 @@
+-- `price::answers::fare` meets its contract.
 use Rattle.price.proofs.Costs.{covered, small, fare-is}
 use native.Mathlib.Omega.{arith}
-use mathlib.Core.Path.{_≡_, refl, sym, ap, _∙_}
 use borrow.Author.Needs.{needs}
 use Rattle.price.proofs.answers.fare.Statement.{statement}
 use Rattle.price.proofs.answers.fare.Tie as tie

@@ -1,6 +1,7 @@
+-- `price::answers::paid_by` meets its contract.
 use Rattle.price.proofs.Places.{paid-none, paid-one, paid-two}
 use native.Mathlib.Omega.{arith}
-use mathlib.Core.Path.{_≡_, refl, sym, ap, _∙_}
+use mathlib.Core.Path.{_∙_}
 use borrow.Author.Needs.{needs}
 use Rattle.price.proofs.answers.paid_by.Statement.{statement}
 use Rattle.price.proofs.answers.paid_by.Tie as tie

@@ -1,9 +1,9 @@
+-- `price::answers::paid_in` meets its contract.
 use Rattle.outline.specs.Price.{belongs}
 use Rattle.outline.specs.Tests.{both, choose}
-use borrow.Author.Tests.{le-ltb, lt-ltb, le-leb, lt-leb, eq-eqb, ne-eqb}
-use Prim.Native.Nat.{ℕ, _+_, _*_, _-_, _≤_, _<_}
+use borrow.Author.Tests.{le-ltb, lt-ltb, le-leb, lt-leb}
+use Prim.Native.Nat.{_+_, _-_, _≤_, _<_}
 use native.Mathlib.Omega.{arith}
-use mathlib.Core.Path.{_≡_, refl, sym, ap, _∙_}
 use Rattle.price.proofs.answers.paid_in.Statement.{statement}
 use Rattle.price.proofs.answers.paid_in.Tie as tie
 

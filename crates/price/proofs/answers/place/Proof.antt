@@ -1,6 +1,7 @@
+-- `price::answers::place` meets its contract.
 use Rattle.price.proofs.Places.{place-used, place-unused}
 use Rattle.selection.specs.Chosen.{runsIn}
-use mathlib.Core.Path.{_≡_, refl, sym, ap, _∙_}
+use mathlib.Core.Path.{_∙_}
 use borrow.Author.Needs.{needs}
 use Rattle.price.proofs.answers.place.Statement.{statement}
 use Rattle.price.proofs.answers.place.Tie as tie

@@ -1,5 +1,5 @@
+-- `price::answers::refused` meets its contract.
 use Rattle.outline.specs.Price.{refusedAnswer}
-use mathlib.Core.Path.{_≡_, refl, sym, ap, _∙_}
 use borrow.Author.Needs.{needs}
 use Rattle.price.proofs.answers.refused.Statement.{statement}
 use Rattle.price.proofs.answers.refused.Tie as tie

@@ -1,6 +1,7 @@
+-- `selection::Selection::none` meets its contract.
 use Rattle.outline.specs.Selections.{total}
 use native.Mathlib.Omega.{arith}
-use mathlib.Core.Path.{_≡_, refl, sym, ap, _∙_}
+use mathlib.Core.Path.{refl}
 use Rattle.selection.proofs.Selection.none.Statement.{statement}
 use Rattle.selection.proofs.Selection.none.Tie as tie
 

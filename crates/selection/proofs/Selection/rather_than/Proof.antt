@@ -1,7 +1,7 @@
+-- `selection::Selection::rather_than` meets its contract.
 use Rattle.selection.specs.Chosen.{ratherThan}
 use Rattle.outline.specs.Tests.{choose}
-use borrow.Author.Tests.{le-ltb, lt-ltb, le-leb, lt-leb, eq-eqb, ne-eqb}
-use mathlib.Core.Path.{_≡_, refl, sym, ap, _∙_}
+use borrow.Author.Tests.{le-ltb, lt-ltb, le-leb, lt-leb}
 use Rattle.selection.proofs.Selection.rather_than.Statement.{statement}
 use Rattle.selection.proofs.Selection.rather_than.Tie as tie
 
