@@ -107,8 +107,7 @@ module _ (N : Network) (q : Question) where
       let first = demand-passes _ (UnknownStation 0) _ BadLimit (λ e. let z = ap numberOf e in omega arith) (known-is N (q .from)) in
       let second = demand-passes _ (UnknownStation 1) _ BadLimit (λ e. let z = ap numberOf e in omega arith) (known-is N (q .to)) in
       let third = demand-passes _ SameStation _ BadLimit (λ e. let z = ap numberOf e in omega arith) (different-is (q .from) (q .to)) in
-      let fourth = demand-stays _ BadLimit _ (λ r. names-good (λ x. x ≡ BadLimit → ⊥) BadLimit r refl) (limit-is (q .limit)) in
-      (
+      let fourth = demand-stays _ BadLimit _ (λ r. names-good (λ x. x ≡ BadLimit → ⊥) BadLimit r refl) (limit-is (q .limit)) in (
         λ e. let a = first .0 e in let b = second .0 (a .1) in let c = third .0 (b .1) in (a .0, b .0, c .0, fourth .0 (c .1)),
         λ h. first .1 (h .0, second .1 (h .1, third .1 (h .2, fourth .1 (h .3)))),
       )

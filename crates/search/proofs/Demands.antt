@@ -24,4 +24,3 @@ use Rattle.search.proofs.cheapest.Reads as cheapest
 -- the contract allows one answer
 pub cheapest-one : (κs : _) (a : _) (r s : Answer) (e e′ : _) → cheapest.Post κs a r e → cheapest.Post κs a s e′ → r ≡ s
 cheapest-one κs a r s e e′ p q = one-answer _ _ r s p q
-
