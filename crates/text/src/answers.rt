@@ -1,9 +1,9 @@
 // The line of an answer.
+use crate::lines;
 use outline::Answer;
 use outline::Judged;
 use outline::Paid;
 use outline::Ride;
-use text::lines;
 
 fn put_after_space(out: &mut [u8], at: usize, x: u8) -> usize {
     let number = lines::put_text(out, at, b" ");
