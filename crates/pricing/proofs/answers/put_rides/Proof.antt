@@ -6,7 +6,7 @@ use Rattle.pricing.proofs.answers.put_rides.Statement.{statement}
 use Rattle.pricing.proofs.answers.put_rides.Tie as tie
 
 abbrev Inv-loop : tie.InvT-loop
-Inv-loop out₀ at n places end₀ i₀ out end i = length out ≡ length out₀
+Inv-loop out₀ at n places end₀ i₀ out end i = (length out ≡ length out₀) × (at ≤ end)
 
 abbrev μ-loop : tie.MeasureT-loop
 μ-loop out₀ at n places end₀ i₀ out end i = n - i
