@@ -1,5 +1,6 @@
 // How far a line of two fields has been read: a book and what is asked of it, two hex digits a byte, with a space between.
 use crate::digits;
+ghost use mathlib.Core.Path.{_≡_};
 
 // The digits of the book and of what is asked, whether the latter has begun, and where the answers so far end.
 pub struct Line {
@@ -9,7 +10,9 @@ pub struct Line {
     pub end: usize,
 }
 
-pub fn new_line(end: usize) -> Line {
+pub fn new_line(end: usize) -> Line
+    ensures { λ r. ⌜ r .end ≡ end ⌝ }
+{
     Line {
         book: 0,
         asked: 0,
@@ -19,7 +22,9 @@ pub fn new_line(end: usize) -> Line {
 }
 
 // One more byte of a line that goes on.
-pub fn put(book: &mut [u8], asked: &mut [u8], line: Line, x: u8) -> Line {
+pub fn put(book: &mut [u8], asked: &mut [u8], line: Line, x: u8) -> Line
+    ensures { λ r. ⌜ r .end ≡ line .end ⌝ }
+{
     if x == b' ' {
         return Line {
             book: line.book,
@@ -45,7 +50,9 @@ pub fn put(book: &mut [u8], asked: &mut [u8], line: Line, x: u8) -> Line {
 }
 
 // The line after its answers have been written.
-pub fn written(line: Line) -> Line {
+pub fn written(line: Line) -> Line
+    ensures { λ r. ⌜ r .end ≡ 0 ⌝ }
+{
     Line {
         book: line.book,
         asked: line.asked,

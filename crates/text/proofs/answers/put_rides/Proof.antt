@@ -1,13 +1,13 @@
 -- `text::answers::put_rides` meets its contract.
 use borrow.Author.Needs.{needs}
 use lib.ListN.{length}
-use Prim.Native.Nat.{_-_}
+use Prim.Native.Nat.{_-_, _≤_}
 use mathlib.Core.Path.{_≡_}
 use Rattle.text.proofs.answers.put_rides.Statement.{statement}
 use Rattle.text.proofs.answers.put_rides.Tie as tie
 
 abbrev Inv-loop : tie.InvT-loop
-Inv-loop out₀ at n places end₀ i₀ out end i = length out ≡ length out₀
+Inv-loop out₀ at n places end₀ i₀ out end i = (length out ≡ length out₀) × (at ≤ end)
 
 abbrev μ-loop : tie.MeasureT-loop
 μ-loop out₀ at n places end₀ i₀ out end i = n - i
