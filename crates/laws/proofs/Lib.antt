@@ -12,3 +12,4 @@ pub mod Given
 pub mod Entries
 pub mod Admissible
 pub mod GivenRoutes
+pub mod Matching

@@ -22,9 +22,8 @@ use Rattle.laws.proofs.Judging.{book-good}
 use Rattle.laws.proofs.Given.{route-of-bytes}
 use Rattle.laws.proofs.GivenRoutes.{route-good, BadAt, bad-ride, route-judged}
 use Rattle.laws.proofs.Entries.{sum-within}
 use Rattle.choice.proofs.Totals.{total-below}
-use Rattle.choice.proofs.Priced.{runs-best, priced-is}
-use Rattle.matching.proofs.Frugal.{frugal}
+use Rattle.choice.proofs.Priced.{runs-best, priced-is, frugal}
 
 -- r is the answer to a book and the bytes of a route
 pub record Answered (b bytes : List ℕ) (r : Answer) : Type 0 where
