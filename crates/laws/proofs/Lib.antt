@@ -6,3 +6,4 @@ pub mod Order
 pub mod Reading
 pub mod Joining
 pub mod Book
+pub mod Sheet

@@ -71,14 +71,18 @@ cell n i j h k =
     let one : suc i * n ≡ i * n + n = suc-mul i n in
     omega arith
 
+-- entry i of a table, counted row by row
+pub entry-at : (body : List ℕ) (i : ℕ) → length body ≡ companyLength (stationCount body) → i < stationCount body * stationCount body
+    → getD (tableOf body .fares) i 0 ≡ wordAt body (1 + 2 * i)
+unfolding tableOf
+entry-at body i l h =
+    let w = getD-words (drop 1 body) i (omega (arith, length-drop 1 body)) in
+    w ∙ word-drop body 1 (2 * i)
+
 pub fare-at : (body : List ℕ) (i j : ℕ) → length body ≡ companyLength (stationCount body) → i < stationCount body → j < stationCount body
     → fareAt (tableOf body) i j ≡ wordAt body (entryPlace (stationCount body) i j)
 unfolding fareAt tableOf
-fare-at body i j l h k =
-    let n : ℕ = stationCount body in
-    let c : i * n + j < n * n = cell n i j h k in
-    let w = getD-words (drop 1 body) (i * n + j) (omega (arith, length-drop 1 body)) in
-    w ∙ word-drop body 1 (2 * (i * n + j))
+fare-at body i j l h k = entry-at body (i * stationCount body + j) l (cell (stationCount body) i j h k)
 
 -- ---- the network's fields
 

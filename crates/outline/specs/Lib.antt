@@ -6,3 +6,8 @@ pub mod Network
 pub mod Book
 pub mod Valid
 pub mod Judging
+pub mod Sheet
+pub mod SheetValid
+pub mod SheetJudging
+pub mod Writing
+pub mod Lending

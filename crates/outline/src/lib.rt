@@ -60,6 +60,12 @@ pub enum Judged {
     Refused(Refusal),
 }
 
+// What a reader or a writer answers: how many numbers or bytes it wrote, or what is refused.
+pub enum Written {
+    Wrote(usize),
+    NotWritten(Refusal),
+}
+
 // What a price or a question is answered with: the fare, the number of rides and four places for rides.
 pub struct Answer {
     pub judged: Judged,
