@@ -9,6 +9,7 @@ use lib.ListN.{length, getD}
 use borrow.Author.Tests.{leb-true, ltb-true, eqb-true, le-leb, lt-ltb, eq-eqb}
 use Rattle.outline.specs.declared.Judged.the-variants.{Good}
 use Rattle.outline.specs.Fares.{Table, fareAt, tableAt, linkAt, ruleAt, noTable, noLink, noRule}
+use Rattle.outline.specs.Refusals.{firstBelow}
 use Rattle.outline.specs.Network.{networkOf}
 use Rattle.outline.specs.Sheet.{countsLength, companiesIn, linksIn, rulesIn, tableNumbers, companyStart, stationsIn, tableIn, fareIndex, linkNumbers, linkStart, linkIn, ruleNumbers, ruleStart, ruleIn, faresIn, networkIn}
 use Rattle.outline.specs.SheetValid.{Counts, CompanyNumbers, SheetLaidOut, ValidSheet}
@@ -28,6 +29,12 @@ start-first s = refl
 pub start-more : (s : List ℕ) (c : ℕ) → companyStart s (c + 1) ≡ companyStart s c + tableNumbers (stationsIn s c)
 unfolding companyStart
 start-more s c = rw add-one refl
+
+-- where so many companies' numbers are in the sheet, they end in it
+pub start-inside : (s : List ℕ) (n : ℕ) → countsLength ≤ length s → ((c : ℕ) → c < n → CompanyNumbers s c) → companyStart s n ≤ length s
+unfolding companyStart
+start-inside s zero h k = h
+start-inside s (suc n) h k = k n (omega arith) .inside
 
 -- ---- what the sheet says
 
@@ -157,6 +164,9 @@ numbers-holds s c h =
     ∙ demand-holds _ _ _ (within-holds _ _ _ (h .stations))
     ∙ demand-holds _ _ _ (le-leb _ _ i)
 
+pub companies-good : (s : List ℕ) (n : ℕ) → firstBelow (numbersCheck s) n ≡ Good → (c : ℕ) → c < n → CompanyNumbers s c
+companies-good s n e c h = numbers-good s c (first-good (numbersCheck s) n e c h)
+
 pub laid-good : (s : List ℕ) → Counts s → ((c : ℕ) → c < companiesIn s → CompanyNumbers s c) → remainderCheck s ≡ Good → SheetLaidOut s
 unfolding remainderCheck
 laid-good s counts companies e = record { counts = counts; companies = companies; ends = eqb-true _ _ (demand-good _ _ _ e .0) }
@@ -176,7 +186,7 @@ sheet-good s = (valid, good)
         let s2 = then-good _ _ (s1 .1) in
         let s3 = then-good _ _ (s2 .1) in
         record {
-          laidOut = laid-good s (counts-good s (s1 .0)) (λ c h. numbers-good s c (first-good (numbersCheck s) _ (s2 .0) c h)) (s3 .0);
+          laidOut = laid-good s (counts-good s (s1 .0)) (companies-good s _ (s2 .0)) (s3 .0);
           fares = fares-good (entryIndex s) (faresIn s) (s3 .1);
         }
 
