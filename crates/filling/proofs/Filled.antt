@@ -3,9 +3,10 @@ use Prim.Native.Nat.{ℕ, zero, suc, _+_, _-_, _≤_, _<_}
 use mathlib.Core.Path.{_≡_, refl, sym, ap, ap₂, _∙_}
 use mathlib.Core.List.{List, [], _∷_, _++_, append-assoc, append-nil}
 use native.Mathlib.Nat.{not-suc-le-zero, le-of-suc-le-suc}
+use native.Mathlib.Numerals.{add-one}
 use native.Mathlib.Omega.{arith}
-use lib.ListN.{length, take, drop, set, length-append, length-drop, drop-of-length-le}
-use lib.Seq.{take-at, drop-at, take-all, drop-drop, set-at, drop-cons}
+use lib.ListN.{length, getD, take, drop, set, length-append, length-drop, drop-of-length-le}
+use lib.Seq.{take-at, drop-at, take-all, drop-drop, set-at, drop-cons, take-suc, length-take-le}
 use Rattle.outline.specs.Lending.{filled}
 
 pub filled-none : (d : List ℕ) → d ≡ filled [] d
@@ -42,3 +43,42 @@ filled-lent xs ys d e back w p q h r =
     let gone : drop (length e - w) (drop w e) ≡ [] = drop-of-length-le (drop w e) {i = length e - w} (omega (arith, length-drop w e)) in
     let all : take (length e - w) (drop w e) ≡ drop w e = take-all (length e - w) (drop w e) (omega (arith, length-drop w e)) in
     rw (gone, append-nil, r, all, te, de, drop-drop, length-append, append-assoc)
+
+-- ---- a list written number by number
+
+pub filled-next : (xs d e : List ℕ) (i v : ℕ) → e ≡ filled (take i xs) d → i < length xs → length xs ≤ length d → v ≡ getD xs i 0
+    → set e i v ≡ filled (take (i + 1) xs) d
+filled-next xs d e i v p h k q =
+    let long : length (take i xs) ≡ i = length-take-le i xs (omega arith) in
+    let more : take (i + 1) xs ≡ take i xs ++ (v ∷ []) = ap (λ (j : ℕ). take j xs) (add-one i) ∙ take-suc xs i 0 h ∙ ap (λ (x : ℕ). take i xs ++ (x ∷ [])) (sym q) in
+    filled-store (take i xs) d e i v p (sym long) (omega arith) ∙ ap (λ (x : List ℕ). filled x d) (sym more)
+
+pub filled-end : (xs d e : List ℕ) (i : ℕ) → e ≡ filled (take i xs) d → length xs ≤ i → e ≡ filled xs d
+filled-end xs d e i p h = p ∙ ap (λ (x : List ℕ). filled x d) (take-all i xs h)
+
+-- a few stores at the front
+pub one-store : (x : ℕ) (d : List ℕ) → 1 ≤ length d → set d 0 x ≡ filled (x ∷ []) d
+unfolding filled
+one-store x [] h = absurd (omega arith)
+one-store x (a ∷ d) h = refl
+
+pub two-stores : (x y : ℕ) (d : List ℕ) → 2 ≤ length d → set (set d 0 x) 1 y ≡ filled (x ∷ y ∷ []) d
+unfolding filled
+two-stores x y [] h = absurd (omega arith)
+two-stores x y (a ∷ []) h = absurd (omega arith)
+two-stores x y (a ∷ b ∷ d) h = refl
+
+pub three-stores : (x y z : ℕ) (d : List ℕ) → 3 ≤ length d → set (set (set d 0 x) 1 y) 2 z ≡ filled (x ∷ y ∷ z ∷ []) d
+unfolding filled
+three-stores x y z [] h = absurd (omega arith)
+three-stores x y z (a ∷ []) h = absurd (omega arith)
+three-stores x y z (a ∷ b ∷ []) h = absurd (omega arith)
+three-stores x y z (a ∷ b ∷ c ∷ d) h = refl
+
+pub four-stores : (x y z w : ℕ) (d : List ℕ) → 4 ≤ length d → set (set (set (set d 0 x) 1 y) 2 z) 3 w ≡ filled (x ∷ y ∷ z ∷ w ∷ []) d
+unfolding filled
+four-stores x y z w [] h = absurd (omega arith)
+four-stores x y z w (a ∷ []) h = absurd (omega arith)
+four-stores x y z w (a ∷ b ∷ []) h = absurd (omega arith)
+four-stores x y z w (a ∷ b ∷ c ∷ []) h = absurd (omega arith)
+four-stores x y z w (a ∷ b ∷ c ∷ e ∷ d) h = refl

@@ -1,2 +1,4 @@
 pub mod Filled
 pub mod InOrder
+pub mod Bytes
+pub mod Sizes

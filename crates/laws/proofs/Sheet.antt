@@ -1,13 +1,14 @@
 -- Laws of reading a sheet: where its parts begin, what its network's fields are, and that a sheet is good exactly where it is valid.
 use Prim.Native.Nat.{ℕ, zero, suc, _+_, _*_, _-_, _≤_, _<_}
 use mathlib.Core.Path.{_≡_, refl, sym, ap, _∙_}
-use mathlib.Core.List.{List}
+use mathlib.Core.List.{List, _∷_, _++_}
 use mathlib.Core.Logic.{_↔_}
 use native.Mathlib.Numerals.{add-one}
 use native.Mathlib.Omega.{arith}
 use lib.ListN.{length, getD}
 use borrow.Author.Tests.{leb-true, ltb-true, eqb-true, le-leb, lt-ltb, eq-eqb}
 use Rattle.outline.specs.declared.Judged.the-variants.{Good}
+use Rattle.outline.specs.Tests.{part}
 use Rattle.outline.specs.Fares.{Table, fareAt, tableAt, linkAt, ruleAt, noTable, noLink, noRule}
 use Rattle.outline.specs.Refusals.{firstBelow}
 use Rattle.outline.specs.Network.{networkOf}
@@ -17,7 +18,7 @@ use Rattle.outline.specs.Judging.{tableCheck}
 use Rattle.outline.specs.SheetJudging.{countsCheck, numbersCheck, remainderCheck, entryIndex, sheetCheck}
 use Rattle.laws.proofs.Tests.{getD-listOf, length-listOf, within-true, within-holds}
 use Rattle.laws.proofs.Firsts.{demand-good, demand-holds, then-good, then-next, first-good, first-holds}
-use Rattle.laws.proofs.Reading.{cell, part-at, part-length, RuleSized}
+use Rattle.laws.proofs.Reading.{cell, part-at, part-length, part-one, part-more, RuleSized}
 use Rattle.laws.proofs.Judging.{fares-good, fares-holds}
 
 -- ---- where the parts begin
@@ -99,6 +100,11 @@ fare-in s at i j h k =
     let e : at + 1 + (i * n + j) ≡ at + fareIndex n i j = omega arith in
     part-at s (at + 1) (n * n) (i * n + j) (cell n i j h k) ∙ ap (λ (m : ℕ). getD s m 0) e
 
+-- as many fares as the stations ask for
+pub square-in : (s : List ℕ) (at : ℕ) → at + tableNumbers (getD s at 0) ≤ length s → length (tableIn s at .fares) ≡ getD s at 0 * getD s at 0
+unfolding tableIn
+square-in s at h = part-length s (at + 1) (getD s at 0 * getD s at 0) (omega arith)
+
 -- what is judged of the table at company c's start is judged of the sheet's table c
 pub table-judged-in : (s : List ℕ) (c at : ℕ) → c < companiesIn s → at ≡ companyStart s c
     → tableCheck (λ (i j : ℕ). at + fareIndex (getD s at 0) i j) (tableIn s at) ≡ tableCheck (entryIndex s c) (tableAt (faresIn s) c)
@@ -122,6 +128,22 @@ rule-sized-in s at h = record {
   alighting = part-length s (at + 11) 5 (omega arith);
   permitted = part-length s (at + 16) 16 (omega arith);
 }
+
+-- a rule's numbers, one after the other
+pub rule-first-in : (s : List ℕ) (at : ℕ) → at + ruleNumbers ≤ length s → part s at 5 ≡ ruleIn s at .rides ∷ ruleIn s at .companies
+unfolding ruleIn
+rule-first-in s at h = part-one s at 4 (omega arith)
+
+pub rule-maps-in : (s : List ℕ) (at : ℕ)
+    → part s (at + 6) 26 ≡ ruleIn s at .boarding ++ (ruleIn s at .alighting ++ ruleIn s at .permitted)
+unfolding ruleIn
+rule-maps-in s at =
+    let five : at + 6 + 5 ≡ at + 11 = omega arith in
+    let ten : at + 11 + 5 ≡ at + 16 = omega arith in
+    part-more s (at + 6) 5 21
+    ∙ ap (λ (a : ℕ). part s (at + 6) 5 ++ part s a 21) five
+    ∙ ap (λ (x : List ℕ). part s (at + 6) 5 ++ x) (part-more s (at + 11) 5 16)
+    ∙ ap (λ (a : ℕ). part s (at + 6) 5 ++ (part s (at + 11) 5 ++ part s a 16)) ten
 
 -- ---- what is refused and what is valid
 

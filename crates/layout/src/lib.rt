@@ -6,6 +6,7 @@ use bytes::word;
 use outline::Link;
 use outline::Station;
 ghost use mathlib.Core.Path.{_≡_};
+ghost use mathlib.Core.List.{_∷_, _++_};
 ghost use Prim.Native.Nat.{_+_, _*_, _≤_, _<_};
 ghost use lib.ListN.{length, getD};
 ghost use Rattle.outline.specs.Tests.{part};
@@ -218,4 +219,20 @@ pub fn rule_permitted(body: &[u8], k: u8) -> &[u8]
     ensures { λ r. ⌜ now r ≡ ruleOf (now (body .entry)) k .permitted ⌝ }
 {
     rule_part(body, k, 17, 16)
+}
+
+// The bytes of rule k before its amount: m and the four companies.
+pub fn rule_first(body: &[u8], k: u8) -> &[u8]
+    requires { ⌜ ruleLength * k + ruleLength ≤ length (now body) ⌝ }
+    ensures { λ r. ⌜ now r ≡ ruleOf (now (body .entry)) k .rides ∷ ruleOf (now (body .entry)) k .companies ⌝ }
+{
+    rule_part(body, k, 0, 5)
+}
+
+// The bytes of rule k after its amount: the three maps.
+pub fn rule_maps(body: &[u8], k: u8) -> &[u8]
+    requires { ⌜ ruleLength * k + ruleLength ≤ length (now body) ⌝ }
+    ensures { λ r. ⌜ now r ≡ ruleOf (now (body .entry)) k .boarding ++ (ruleOf (now (body .entry)) k .alighting ++ ruleOf (now (body .entry)) k .permitted) ⌝ }
+{
+    rule_part(body, k, 7, 26)
 }

@@ -91,7 +91,7 @@ unfoldable pub linkSheet : Link → List ℕ
 linkSheet l = l .one .company ∷ l .one .number ∷ l .other .company ∷ l .other .number ∷ []
 
 unfoldable pub ruleSheet : Rule → List ℕ
-ruleSheet r = (r .rides ∷ r .companies) ++ ((r .amount ∷ r .boarding) ++ (r .alighting ++ r .permitted))
+ruleSheet r = (r .rides ∷ r .companies) ++ (r .amount ∷ (r .boarding ++ (r .alighting ++ r .permitted)))
 
 unfoldable pub countsSheet : Fares → List ℕ
 countsSheet F = length (F .tables) ∷ length (F .links) ∷ length (F .rules) ∷ []

@@ -1,9 +1,10 @@
 // The layout of a sheet: where its counts, tables, links and rules stand. No other file but numbers/src/lib.rt knows a place or a size in it.
 ghost use mathlib.Core.Path.{_≡_};
+ghost use mathlib.Core.List.{_∷_, _++_};
 ghost use Prim.Native.Nat.{ℕ, _+_, _*_, _≤_, _<_};
 ghost use lib.ListN.{length, getD};
 ghost use Rattle.outline.specs.Tests.{part};
-ghost use Rattle.outline.specs.Sheet.{companiesIn, linksIn, rulesIn, tableNumbers, companyStart, fareIndex, linkNumbers, ruleNumbers, ruleIn};
+ghost use Rattle.outline.specs.Sheet.{companiesIn, linksIn, rulesIn, tableNumbers, companyStart, fareIndex, linkNumbers, ruleNumbers, ruleIn, tableIn};
 ghost use Rattle.outline.specs.SheetValid.{CompanyNumbers};
 
 pub const COUNTS: usize = 3;
@@ -131,4 +132,29 @@ pub fn rule_permitted(sheet: &[u16], at: usize) -> &[u16]
     ensures { λ r. ⌜ now r ≡ ruleIn (now (sheet .entry)) at .permitted ⌝ }
 {
     numbers(sheet, at + 16, 16)
+}
+
+// The fares of the company whose numbers begin at `at`.
+pub fn fares(sheet: &[u16], at: usize) -> &[u16]
+    requires { ⌜ at + tableNumbers (getD (now sheet) at 0) ≤ length (now sheet) ⌝ }
+    ensures { λ r. ⌜ now r ≡ tableIn (now (sheet .entry)) at .fares ⌝ }
+{
+    let n = wide(sheet[at]);
+    numbers(sheet, at + 1, n * n)
+}
+
+// The numbers of a rule before its amount: m and the four companies.
+pub fn rule_first(sheet: &[u16], at: usize) -> &[u16]
+    requires { ⌜ at + ruleNumbers ≤ length (now sheet) ⌝ }
+    ensures { λ r. ⌜ now r ≡ ruleIn (now (sheet .entry)) at .rides ∷ ruleIn (now (sheet .entry)) at .companies ⌝ }
+{
+    numbers(sheet, at, 5)
+}
+
+// The numbers of a rule after its amount: the three maps.
+pub fn rule_maps(sheet: &[u16], at: usize) -> &[u16]
+    requires { ⌜ at + ruleNumbers ≤ length (now sheet) ⌝ }
+    ensures { λ r. ⌜ now r ≡ ruleIn (now (sheet .entry)) at .boarding ++ (ruleIn (now (sheet .entry)) at .alighting ++ ruleIn (now (sheet .entry)) at .permitted) ⌝ }
+{
+    numbers(sheet, at + 6, 26)
 }
