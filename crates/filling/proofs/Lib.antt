@@ -2,3 +2,4 @@ pub mod Filled
 pub mod InOrder
 pub mod Bytes
 pub mod Sizes
+pub mod Whole
