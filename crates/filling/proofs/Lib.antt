@@ -3,3 +3,4 @@ pub mod InOrder
 pub mod Bytes
 pub mod Sizes
 pub mod Whole
+pub mod Answers
