@@ -53,6 +53,10 @@ table-back t s at square e =
     let fares : part s (at + 1) (t .stations * t .stations) ≡ t .fares = piece-at s (t .stations ∷ []) (t .fares) rest at 1 (t .stations * t .stations) tail refl square in
     rw (n, fares) refl
 
+stations-back : (t : Table) (s : List ℕ) (at : ℕ) → tableIn s at ≡ t → getD s at 0 ≡ t .stations
+unfolding tableIn
+stations-back t s at e = ap (λ (u : Table). u .stations) e
+
 link-back : (l : Link) (s : List ℕ) (at : ℕ) → part s at 4 ≡ linkSheet l → linkIn s at ≡ l
 unfolding linkSheet linkIn
 link-back l s at e =
@@ -199,6 +203,14 @@ module _ (F : Fares) (whole : Whole F) where
       ∙ part-first (tablesSheet F) (linksSheet F ++ rulesSheet F) (length (inOrder numbers c)) (length (numbers c)) (order-room numbers (length (F .tables)) c h)
       ∙ order-part numbers (length (F .tables)) c h
 
+  long-in : (c : ℕ) → c < length (F .tables) → length (numbers c) ≡ tableNumbers (tableAt F c .stations)
+  unfolding numbers
+  long-in c h = table-sheet-length (tableAt F c) (whole .square c h)
+
+  room-in : (c : ℕ) → c < length (F .tables) → length (inOrder numbers c) + length (numbers c) ≤ length (tablesSheet F)
+  unfolding tablesSheet numbers
+  room-in c h = order-room numbers (length (F .tables)) c h
+
   link-place : (k : ℕ) → k < length (F .links) → part (sheetOf F) (3 + (length (tablesSheet F) + 4 * k)) 4 ≡ linkSheet (linkAt F k)
   unfolding linksSheet
   link-place k h =
@@ -229,9 +241,61 @@ module _ (F : Fares) (whole : Whole F) where
       let before = start-back c (omega arith) in
       let known : c < length (F .tables) = omega arith in
       let here = table-back (tableAt F c) (sheetOf F) _ (whole .square c known) (table-place c known) in
-      let n : getD (sheetOf F) (companyStart (sheetOf F) c) 0 ≡ tableAt F c .stations = ap (λ (i : ℕ). getD (sheetOf F) i 0) before ∙ stations here in
+      let n : getD (sheetOf F) (companyStart (sheetOf F) c) 0 ≡ tableAt F c .stations = ap (λ (i : ℕ). getD (sheetOf F) i 0) before ∙ stations-back (tableAt F c) (sheetOf F) (3 + length (inOrder numbers c)) here in
       let long = table-sheet-length (tableAt F c) (whole .square c known) in
       omega (arith, ap (λ (m : ℕ). tableNumbers m) n, length-append (inOrder numbers c) (numbers c))
+
+  counts-back : (companiesIn (sheetOf F) ≡ length (F .tables)) × (linksIn (sheetOf F) ≡ length (F .links)) × (rulesIn (sheetOf F) ≡ length (F .rules))
+  unfolding sheetOf countsSheet
+  counts-back = (refl, refl, refl)
+
+  table-read : (c : ℕ) → c < length (F .tables) → tableIn (sheetOf F) (companyStart (sheetOf F) c) ≡ tableAt F c
+  unfolding numbers
+  table-read c h = rw (start-back c (omega arith)) (table-back (tableAt F c) (sheetOf F) (3 + length (inOrder numbers c)) (whole .square c h) (table-place c h))
+
+  links-place : companyStart (sheetOf F) (companiesIn (sheetOf F)) ≡ 3 + length (tablesSheet F)
+  unfolding tablesSheet numbers
+  links-place = rw (counts-back .0) (start-back (length (F .tables)) (omega arith))
+
+  link-read : (k : ℕ) → k < length (F .links) → linkIn (sheetOf F) (linkStart (sheetOf F) k) ≡ linkAt F k
+  link-read k h =
+      let at : linkStart (sheetOf F) k ≡ 3 + (length (tablesSheet F) + 4 * k) = omega (arith, links-place) in
+      rw at (link-back (linkAt F k) (sheetOf F) (3 + (length (tablesSheet F) + 4 * k)) (link-place k h))
+
+  rules-place : (k : ℕ) → ruleStart (sheetOf F) k ≡ 3 + (length (tablesSheet F) + (4 * length (F .links) + 32 * k))
+  rules-place k = omega (arith, links-place, counts-back .1)
+
+  rule-read : (k : ℕ) → k < length (F .rules) → ruleIn (sheetOf F) (ruleStart (sheetOf F) k) ≡ ruleAt F k
+  rule-read k h = rw (rules-place k) (rule-back (ruleAt F k) (sheetOf F) (3 + (length (tablesSheet F) + (4 * length (F .links) + 32 * k))) (whole .sized k h) (rule-place k h))
+
+  pub fares-back : faresIn (sheetOf F) ≡ F
+  unfolding faresIn
+  fares-back =
+      let tables = listed (λ (c : ℕ). tableIn (sheetOf F) (companyStart (sheetOf F) c)) (F .tables) noTable (companiesIn (sheetOf F)) (counts-back .0) (λ c h. table-read c (rw (counts-back .0) at h)) in
+      let links = listed (λ (k : ℕ). linkIn (sheetOf F) (linkStart (sheetOf F) k)) (F .links) noLink (linksIn (sheetOf F)) (counts-back .1) (λ k h. link-read k (rw (counts-back .1) at h)) in
+      let rules = listed (λ (k : ℕ). ruleIn (sheetOf F) (ruleStart (sheetOf F) k)) (F .rules) noRule (rulesIn (sheetOf F)) (counts-back .2) (λ k h. rule-read k (rw (counts-back .2) at h)) in
+      rw (tables, links, rules) refl
+
+  pub sheet-laid-out : SheetLaidOut (sheetOf F)
+  sheet-laid-out =
+      let long = sheet-length F whole in
+      record {
+        counts = record {
+          present = omega arith;
+          companies = rw (counts-back .0) (whole .companies);
+          links = rw (counts-back .1) (whole .links);
+          rules = rw (counts-back .2) (whole .rules);
+        };
+        companies = λ c h. company c (rw (counts-back .0) at h);
+        ends = omega (arith, rules-place (rulesIn (sheetOf F)), counts-back .2);
+      }
     where
-      stations : {at : ℕ} → tableIn (sheetOf F) at ≡ tableAt F c → getD (sheetOf F) at 0 ≡ tableAt F c .stations
-      stations e = tables-stations e
+      company : (c : ℕ) → c < length (F .tables) → CompanyNumbers (sheetOf F) c
+      company c h =
+          let n : stationsIn (sheetOf F) c ≡ tableAt F c .stations = stations-back (tableAt F c) (sheetOf F) (companyStart (sheetOf F) c) (table-read c h) in
+          let room : length (inOrder numbers c) + length (numbers c) ≤ length (tablesSheet F) = room-in c h in
+          let one : length (numbers c) ≡ tableNumbers (tableAt F c .stations) = long-in c h in
+          record {
+            stations = rw n (whole .stations c h);
+            inside = omega (arith, start-back c (omega arith), ap (λ (m : ℕ). tableNumbers m) n, sheet-length F whole);
+          }
