@@ -25,7 +25,7 @@ table-again : (s : List ℕ) (at : ℕ) → at < length s → tableSheet (tableI
 unfolding tableSheet tableIn
 table-again s at h = sym (part-one s at (getD s at 0 * getD s at 0) h)
 
-link-again : (s : List ℕ) (at : ℕ) → at + 4 ≤ length s → linkSheet (linkIn s at) ≡ part s at 4
+pub link-again : (s : List ℕ) (at : ℕ) → at + 4 ≤ length s → linkSheet (linkIn s at) ≡ part s at 4
 unfolding linkSheet linkIn
 link-again s at h =
     let e : at + 2 + 1 ≡ at + 3 = omega arith in
@@ -57,7 +57,7 @@ stations-back : (t : Table) (s : List ℕ) (at : ℕ) → tableIn s at ≡ t →
 unfolding tableIn
 stations-back t s at e = ap (λ (u : Table). u .stations) e
 
-link-back : (l : Link) (s : List ℕ) (at : ℕ) → part s at 4 ≡ linkSheet l → linkIn s at ≡ l
+pub link-back : (l : Link) (s : List ℕ) (at : ℕ) → part s at 4 ≡ linkSheet l → linkIn s at ≡ l
 unfolding linkSheet linkIn
 link-back l s at e =
     let tail = tail-of s (linkSheet l) at 4 e in
