@@ -13,13 +13,13 @@ ghost use Rattle.bodies.specs.Bytes.{LinkBytes, RuleBytes};
 // The bytes of an entry of the contents.
 pub const ENTRY: usize = 4;
 
-fn low(x: u16) -> u8
+pub fn low(x: u16) -> u8
     ensures { λ r. ⌜ r ≡ x % 256 ⌝ }
 {
     (x % 256) as u8
 }
 
-fn high(x: u16) -> u8
+pub fn high(x: u16) -> u8
     ensures { λ r. ⌜ r ≡ x / 256 ⌝ }
 {
     (x / 256) as u8

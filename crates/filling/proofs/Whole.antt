@@ -1,11 +1,10 @@
 -- What fares that a laid-out book or sheet says are like, and how long their sheet and their book are.
-use Prim.Native.Nat.{ℕ, suc, _+_, _*_, _≤_, _<_}
-use mathlib.Core.Path.{_≡_, refl, sym, ap, _∙_}
-use mathlib.Core.List.{List, _++_}
+use Prim.Native.Nat.{ℕ, _+_, _*_, _≤_, _<_}
+use mathlib.Core.Path.{_≡_, refl, ap, _∙_}
+use mathlib.Core.List.{List}
 use native.Mathlib.Nat.{mul-le-mul}
-use native.Mathlib.Numerals.{add-one}
 use native.Mathlib.Omega.{arith}
-use lib.ListN.{length, getD, length-append}
+use lib.ListN.{length, length-append}
 use borrow.Author.Tests.{lt-ltb, le-ltb, eq-eqb, ne-eqb}
 use Rattle.outline.specs.Numbers.{mostCompanies, leastStations, mostStations, mostLinks, mostRules}
 use Rattle.outline.specs.Tests.{Within, choose, inOrder}
@@ -13,7 +12,7 @@ use Rattle.outline.specs.Fares.{Table, Fares, tableAt, linkAt, ruleAt, noTable,
 use Rattle.outline.specs.Network.{networkOf}
 use Rattle.outline.specs.Book.{companyCount, linkCount, ruleCount, linksEntry, rulesEntry, bodyOf, stationCount, tableOf, linkOf, ruleOf, faresOf, network}
 use Rattle.outline.specs.Valid.{LaidOut}
-use Rattle.outline.specs.Sheet.{companiesIn, linksIn, rulesIn, stationsIn, companyStart, tableIn, faresIn, tableSheet, linkSheet, ruleSheet, countsSheet, tablesSheet, linksSheet, rulesSheet, sheetOf}
+use Rattle.outline.specs.Sheet.{companiesIn, rulesIn, companyStart, tableIn, faresIn, tableSheet, linkSheet, ruleSheet, countsSheet, tablesSheet, linksSheet, rulesSheet, sheetOf}
 use Rattle.outline.specs.SheetValid.{SheetLaidOut}
 use Rattle.outline.specs.Writing.{twoBytes, tableBytes, linkBytes, ruleBytes, linksBytes, rulesBytes, bodyIn, headerBytes, entryBytes, bookOf}
 use Rattle.laws.proofs.Tests.{getD-listOf, length-listOf}

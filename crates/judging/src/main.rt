@@ -7,23 +7,23 @@ mod digits;
 use libc::STDIN_FILENO;
 
 // Judges the books whose lines end in a block of the input, and answers how many digits the last has that goes on after it.
-fn judge_block(text: &[u8], book: &mut [u8], before: usize) -> usize {
+fn judge_block(block: &[u8], book: &mut [u8], before: usize) -> usize {
     let mut space = io::buffer();
     let out: &mut [u8] = &mut space;
     let mut end: usize = 0;
     let mut count = before;
     let mut i: usize = 0;
-    while i < text.len() {
-        let x = text[i];
+    while i < block.len() {
+        let x = block[i];
         if x == b'\n' {
             end = answers::put(out, end, digits::judge(book, count));
             count = 0;
         } else {
-            count = digits::put(book, count, x);
+            count = text::put_digit(book, count, x);
         }
         i += 1;
     }
-    answers::write(out, end);
+    text::write(out, end);
     count
 }
 

@@ -3,20 +3,20 @@ use Prim.Native.Nat.{ℕ, zero, suc, _+_, _*_, _≤_, _<_}
 use mathlib.Core.Path.{_≡_, refl, sym, ap, ap₂, _∙_, subst}
 use mathlib.Core.List.{List, [], _∷_, _++_, append-assoc}
 use mathlib.Core.Logic.{⊎-elim}
-use native.Mathlib.Nat.{not-suc-le-zero, eq-or-lt-of-le}
+use native.Mathlib.Nat.{eq-or-lt-of-le}
 use native.Mathlib.Numerals.{add-one}
 use native.Mathlib.Omega.{arith}
 use lib.ListN.{length, getD, take, drop, length-append, length-drop}
 use lib.Seq.{drop-drop, drop-at, drop-cons, getD-drop}
 use Rattle.outline.specs.declared.Link.{Link}
-use Rattle.outline.specs.Tests.{Within, inOrder, part}
+use Rattle.outline.specs.Tests.{inOrder, part}
 use Rattle.outline.specs.Fares.{Table, Rule, Fares, tableAt, linkAt, ruleAt, noTable, noLink, noRule}
-use Rattle.outline.specs.Book.{wordAt, layoutNumber, companyCount, linkCount, ruleCount, offsetOf, lengthOf, linksEntry, rulesEntry, firstBody, endBefore, bodyOf, companyLength, stationCount, words, tableOf, linkOf, ruleLength, ruleOf, faresOf}
-use Rattle.outline.specs.Valid.{Header, Body, CompanyBody, ListBody, LaidOut, Bytes}
+use Rattle.outline.specs.Book.{wordAt, layoutNumber, companyCount, linkCount, ruleCount, offsetOf, lengthOf, linksEntry, rulesEntry, endBefore, bodyOf, companyLength, stationCount, tableOf, linkOf, ruleLength, ruleOf, faresOf}
+use Rattle.outline.specs.Valid.{Body, CompanyBody, LaidOut, Bytes}
 use Rattle.outline.specs.Sheet.{linkIn, linkSheet}
-use Rattle.outline.specs.Writing.{twoBytes, bytesOf, tableBytes, linkBytes, ruleBytes, linksBytes, rulesBytes, bodyIn, headerBytes, offsetIn, entryBytes, bookOf}
-use Rattle.laws.proofs.Reading.{part-at, part-more, part-one, part-length, body-length, company-long, rule-first, rule-maps, RuleSized}
-use Rattle.laws.proofs.Book.{body-at, gapless, Gapless}
+use Rattle.outline.specs.Writing.{twoBytes, tableBytes, linkBytes, ruleBytes, linksBytes, rulesBytes, bodyIn, headerBytes, offsetIn, entryBytes, bookOf}
+use Rattle.laws.proofs.Reading.{part-more, part-one, body-length, company-long, rule-first, rule-maps, RuleSized}
+use Rattle.laws.proofs.Book.{gapless}
 use Rattle.filling.proofs.InOrder.{order-more-length, order-room, order-part, order-whole, order-length}
 use Rattle.filling.proofs.Sizes.{link-bytes-length, rule-bytes-length}
 use Rattle.filling.proofs.Whole.{Whole, book-whole, tables-of, links-of, rules-of, table-of, link-of, rule-of, body-company, body-links, body-rules, company-bytes-length, links-bytes-length, rules-bytes-length, entry-length, contents-length, bodies-length, book-length}

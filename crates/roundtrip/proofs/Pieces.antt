@@ -1,16 +1,15 @@
 -- Pieces of a list: where a list that is put together has them, and what stands at a place that a piece begins at.
-use Prim.Native.Nat.{ℕ, zero, suc, _+_, _*_, _-_, _/_, _%_, _≤_, _<_}
+use Prim.Native.Nat.{ℕ, zero, suc, _+_, _*_, _/_, _%_, _≤_, _<_}
 use mathlib.Core.Path.{_≡_, refl, sym, ap, ap₂, _∙_}
-use mathlib.Core.List.{List, [], _∷_, _++_, append-assoc, append-nil}
-use native.Mathlib.Numerals.{add-one}
+use mathlib.Core.List.{List, [], _∷_, _++_}
 use native.Mathlib.Omega.{arith}
-use lib.ListN.{length, getD, take, drop, length-append, length-drop, take-append-drop}
+use lib.ListN.{length, getD, take, drop, length-drop, take-append-drop}
 use lib.Seq.{take-at, drop-at, getD-at, take-append-le, drop-append-le, take-length, drop-drop, getD-drop, ext-getD}
 use Rattle.outline.specs.Tests.{listOf, part}
 use Rattle.outline.specs.Book.{wordAt, words}
 use Rattle.outline.specs.Writing.{twoBytes, bytesOf}
 use Rattle.laws.proofs.Tests.{getD-listOf, length-listOf}
-use Rattle.laws.proofs.Reading.{part-at, part-more, part-one}
+use Rattle.laws.proofs.Reading.{part-one}
 
 -- ---- pieces of a list that is put together
 

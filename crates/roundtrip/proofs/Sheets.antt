@@ -2,19 +2,16 @@
 use Prim.Native.Nat.{ℕ, zero, suc, _+_, _*_, _≤_, _<_}
 use mathlib.Core.Path.{_≡_, refl, sym, ap, ap₂, _∙_}
 use mathlib.Core.List.{List, [], _∷_, _++_, append-assoc}
-use native.Mathlib.Nat.{not-suc-le-zero}
-use native.Mathlib.Numerals.{add-one}
 use native.Mathlib.Omega.{arith}
-use lib.ListN.{length, getD, take, drop, length-append}
-use Rattle.outline.specs.declared.Station.{Station}
+use lib.ListN.{length, getD, drop, length-append}
 use Rattle.outline.specs.declared.Link.{Link}
-use Rattle.outline.specs.Tests.{Within, inOrder, part, listOf}
+use Rattle.outline.specs.Tests.{inOrder, part}
 use Rattle.outline.specs.Fares.{Table, Rule, Fares, tableAt, linkAt, ruleAt, noTable, noLink, noRule}
 use Rattle.outline.specs.Sheet.{companiesIn, linksIn, rulesIn, tableNumbers, companyStart, stationsIn, tableIn, linkStart, linkIn, ruleStart, ruleIn, faresIn, tableSheet, linkSheet, ruleSheet, countsSheet, tablesSheet, linksSheet, rulesSheet, sheetOf}
-use Rattle.outline.specs.SheetValid.{Counts, CompanyNumbers, SheetLaidOut}
-use Rattle.laws.proofs.Reading.{part-at, part-more, part-one, RuleSized}
-use Rattle.laws.proofs.Sheet.{start-first, start-more, companies-in, links-in, rules-in, table-in, link-in, rule-in, stations-in, link-inside, rule-inside, rule-first-in, rule-maps-in}
-use Rattle.filling.proofs.InOrder.{order-none, order-more-length, order-room, order-part, order-whole, order-length, order-same}
+use Rattle.outline.specs.SheetValid.{CompanyNumbers, SheetLaidOut}
+use Rattle.laws.proofs.Reading.{part-more, part-one, RuleSized}
+use Rattle.laws.proofs.Sheet.{companies-in, links-in, rules-in, table-in, link-in, rule-in, stations-in, link-inside, rule-inside, rule-first-in, rule-maps-in}
+use Rattle.filling.proofs.InOrder.{order-room, order-part, order-whole, order-length}
 use Rattle.filling.proofs.Sizes.{table-sheet-length, link-sheet-length, rule-sheet-length}
 use Rattle.filling.proofs.Whole.{Whole, sheet-whole, sheet-length, links-sheet-length, rules-sheet-length}
 use Rattle.roundtrip.proofs.Pieces.{part-skip, part-first, tail-of, piece-at, number-at, part-whole, part-four, listed}

@@ -1,4 +1,6 @@
 // A book to its sheet, and a sheet to its book.
+pub mod trips;
+
 use outline::Judged;
 use outline::Refusal;
 use outline::Written;

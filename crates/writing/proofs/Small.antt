@@ -1,19 +1,18 @@
 -- The links and rules of a valid sheet have a byte wherever the book has one.
-use Prim.Native.Nat.{ℕ, zero, suc, _+_, _≤_, _<_}
-use mathlib.Core.Path.{_≡_, refl, sym, ap, _∙_}
+use Prim.Native.Nat.{ℕ, zero, suc, _≤_, _<_}
+use mathlib.Core.Path.{_≡_, refl}
 use mathlib.Core.Bool.{Bool, true, false}
 use mathlib.Core.List.{List, [], _∷_, _++_}
-use native.Mathlib.Nat.{le-of-suc-le-suc, not-suc-le-zero}
+use native.Mathlib.Nat.{le-of-suc-le-suc}
 use native.Mathlib.Omega.{arith}
-use lib.ListN.{length, getD}
 use lib.Dec.{ltb}
 use borrow.Author.Tests.{ltb-true, ltb-false}
 use Rattle.outline.specs.Numbers.{mostStations}
 use Rattle.outline.specs.declared.Link.{Link}
 use Rattle.outline.specs.Fares.{Rule, companyAt}
 use Rattle.outline.specs.Network.{Network}
-use Rattle.outline.specs.Sheet.{companiesIn, linksIn, rulesIn, linkStart, linkIn, ruleStart, ruleIn, faresIn, networkIn}
-use Rattle.outline.specs.Valid.{GoodLink, GoodMap, GoodRule}
+use Rattle.outline.specs.Sheet.{companiesIn, linksIn, rulesIn, linkStart, linkIn, ruleStart, ruleIn, networkIn}
+use Rattle.outline.specs.Valid.{GoodLink, GoodRule}
 use Rattle.outline.specs.SheetValid.{ValidSheet}
 use Rattle.laws.proofs.Reading.{RuleSized}
 use Rattle.laws.proofs.Sheet.{network-companies-in, network-links-in, network-rules-in, network-stations-in, network-link-in, network-rule-in, rule-sized-in, rule-inside}

@@ -1,12 +1,12 @@
 -- What a laid-out sheet tells the writer: how long the parts of its book are, and what a turn of a loop over its companies meets.
 use Prim.Native.Nat.{ℕ, _+_, _*_, _≤_, _<_}
-use mathlib.Core.Path.{_≡_, refl, sym, ap, ap₂, _∙_}
+use mathlib.Core.Path.{_≡_, sym, ap, _∙_}
 use mathlib.Core.List.{List, _++_, append-assoc}
 use native.Mathlib.Omega.{arith}
-use lib.ListN.{length, getD, length-append}
+use lib.ListN.{length, getD}
 use Rattle.outline.specs.Numbers.{mostStations}
 use Rattle.outline.specs.Tests.{inOrder}
-use Rattle.outline.specs.Fares.{Table, tableAt, linkAt, ruleAt}
+use Rattle.outline.specs.Fares.{linkAt, ruleAt}
 use Rattle.outline.specs.Book.{companyLength}
 use Rattle.outline.specs.Sheet.{companiesIn, linksIn, rulesIn, tableNumbers, companyStart, stationsIn, tableIn, linkStart, linkIn, ruleStart, ruleIn, faresIn}
 use Rattle.outline.specs.SheetValid.{SheetLaidOut}

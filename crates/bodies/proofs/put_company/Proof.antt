@@ -1,10 +1,9 @@
 use native.Mathlib.Omega.{arith}
-use mathlib.Core.Path.{_≡_, refl, sym, ap, _∙_}
-use Prim.Native.Nat.{ℕ, _+_, _*_, _-_, _≤_, _<_}
+use mathlib.Core.Path.{refl, ap, _∙_}
+use Prim.Native.Nat.{ℕ}
 use denote.Ref.{now}
-use lib.ListN.{length, getD}
-use lib.ListN.{take, drop, length-set, length-take, length-drop, length-append}
-use mathlib.Core.List.{List, [], _∷_, _++_, append-assoc}
+use lib.ListN.{length, getD, length-set, length-take, length-drop}
+use mathlib.Core.List.{[], _∷_}
 use Rattle.outline.specs.Lending.{filled}
 use Rattle.outline.specs.Sheet.{tableIn}
 use Rattle.outline.specs.Writing.{bytesOf, tableBytes}

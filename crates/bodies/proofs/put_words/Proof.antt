@@ -1,11 +1,10 @@
 use native.Mathlib.Omega.{arith}
 use borrow.Author.Needs.{needs}
 use mathlib.Core.Path.{_≡_, refl, sym, ap, _∙_}
-use Prim.Native.Nat.{ℕ, _+_, _*_, _-_, _≤_, _<_}
+use Prim.Native.Nat.{ℕ, _+_, _*_, _-_, _≤_}
 use denote.Ref.{now}
-use lib.ListN.{length, getD}
-use lib.ListN.{take, drop, length-set, length-take, length-drop, length-append}
-use mathlib.Core.List.{List, [], _∷_, _++_, append-assoc}
+use lib.ListN.{length, getD, take, length-take, length-drop}
+use mathlib.Core.List.{List}
 use Rattle.outline.specs.Lending.{filled}
 use lib.Seq.{length-take-le}
 use Rattle.outline.specs.Writing.{twoBytes, bytesOf}

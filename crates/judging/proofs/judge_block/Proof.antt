@@ -8,10 +8,10 @@ use Rattle.judging.proofs.judge_block.Statement.{statement}
 use Rattle.judging.proofs.judge_block.Tie as tie
 
 abbrev Inv-loop : tie.InvT-loop
-Inv-loop text book₀ before out₀ end₀ count₀ i₀ book out end count i = (i ≤ length text) × (length book ≡ length book₀) × (length out ≡ length out₀)
+Inv-loop block book₀ before out₀ end₀ count₀ i₀ book out end count i = (i ≤ length block) × (length book ≡ length book₀) × (length out ≡ length out₀)
 
 abbrev μ-loop : tie.MeasureT-loop
-μ-loop text book₀ before out₀ end₀ count₀ i₀ book out end count i = length text - i
+μ-loop block book₀ before out₀ end₀ count₀ i₀ book out end count i = length block - i
 
 buffer-requires : tie.Need-buffer-requires Inv-loop μ-loop
 buffer-requires c κs = search needs
@@ -31,8 +31,8 @@ judge-requires c κs = search needs
 put-requires : tie.Need-put-requires Inv-loop μ-loop
 put-requires c κs = search needs
 
-put-requires-2 : tie.Need-put-requires-2 Inv-loop μ-loop
-put-requires-2 c κs = search needs
+put-digit-requires : tie.Need-put-digit-requires Inv-loop μ-loop
+put-digit-requires c κs = search needs
 
 add-i : tie.Need-add-i Inv-loop μ-loop
 add-i c = search needs
@@ -64,7 +64,7 @@ judge-block-spec =
     shared-slice-read-x
     judge-requires
     put-requires
-    put-requires-2
+    put-digit-requires
     add-i
     loop-less
     loop-again

@@ -1,8 +1,5 @@
 use native.Mathlib.Omega.{arith}
-use mathlib.Core.Path.{_≡_, refl, sym, ap, _∙_}
-use Prim.Native.Nat.{ℕ, _+_, _*_, _-_, _≤_, _<_}
 use denote.Ref.{now}
-use lib.ListN.{length, getD}
 use Rattle.outline.specs.Book.{faresOf}
 use Rattle.filling.proofs.Whole.{book-whole, links-of, rules-of, tables-sheet-most, sheet-length}
 use borrow.Author.Needs.{needs}

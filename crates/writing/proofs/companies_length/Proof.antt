@@ -1,18 +1,16 @@
 use native.Mathlib.Omega.{arith}
 use borrow.Author.Needs.{needs}
 use mathlib.Core.Path.{_≡_, refl, sym, ap, _∙_}
-use Prim.Native.Nat.{ℕ, _+_, _*_, _-_, _≤_, _<_}
+use Prim.Native.Nat.{ℕ, _+_, _-_, _≤_, _<_}
 use denote.Ref.{now}
-use lib.ListN.{length, getD}
-use mathlib.Core.Path.{ap₂}
+use lib.ListN.{length}
 use Rattle.outline.specs.Tests.{inOrder}
 use Rattle.outline.specs.Book.{companyLength}
-use Rattle.outline.specs.Sheet.{companiesIn, companyStart, tableNumbers, faresIn}
+use Rattle.outline.specs.Sheet.{companiesIn, companyStart, faresIn}
 use Rattle.outline.specs.Writing.{bodyIn}
 use Rattle.laws.proofs.Sheet.{start-first}
-use Rattle.filling.proofs.InOrder.{order-more, order-more-length, order-turn}
-use Rattle.filling.proofs.Filled.{filled-none, length-filled}
-use Rattle.writing.proofs.Turns.{parts, turn}
+use Rattle.filling.proofs.InOrder.{order-more-length}
+use Rattle.writing.proofs.Turns.{turn}
 use Rattle.writing.proofs.companies_length.Statement.{statement}
 use Rattle.writing.proofs.companies_length.Tie as tie
 

@@ -1,17 +1,14 @@
-use Rattle.outline.specs.Writing.{bookOf}
-use Rattle.filling.proofs.Filled.{length-filled}
+use Rattle.outline.specs.Writing.{bookOf, bodyIn, headerBytes, entryBytes}
+use Rattle.filling.proofs.Filled.{length-filled, filled-lent}
 use native.Mathlib.Omega.{arith}
 use mathlib.Core.Path.{_≡_, refl, sym, ap, _∙_}
-use Prim.Native.Nat.{ℕ, _+_, _*_, _-_, _≤_, _<_}
+use Prim.Native.Nat.{ℕ, _+_}
 use denote.Ref.{now}
-use lib.ListN.{length, getD}
-use lib.ListN.{take, drop, length-set, length-take, length-drop, length-append}
-use mathlib.Core.List.{List, [], _∷_, _++_, append-assoc}
+use lib.ListN.{length, length-take, length-drop, length-append}
+use mathlib.Core.List.{List, _++_, append-assoc}
 use Rattle.outline.specs.Lending.{filled}
 use Rattle.outline.specs.Tests.{inOrder}
 use Rattle.outline.specs.Sheet.{companiesIn, faresIn}
-use Rattle.outline.specs.Writing.{bodyIn, headerBytes, entryBytes}
-use Rattle.filling.proofs.Filled.{filled-lent}
 use Rattle.writing.proofs.Turns.{parts, book-parts}
 use borrow.Author.Needs.{needs}
 use Rattle.writing.proofs.fill.Statement.{statement}

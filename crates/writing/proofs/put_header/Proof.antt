@@ -1,8 +1,4 @@
-use native.Mathlib.Omega.{arith}
-use mathlib.Core.Path.{_≡_, refl, sym, ap, _∙_}
-use Prim.Native.Nat.{ℕ, _+_, _*_, _-_, _≤_, _<_}
 use denote.Ref.{now}
-use lib.ListN.{length, getD}
 use Rattle.outline.specs.Writing.{headerBytes}
 use Rattle.laws.proofs.Sheet.{companies-in, links-in, rules-in}
 use borrow.Author.Needs.{needs}

@@ -1,10 +1,8 @@
 use native.Mathlib.Omega.{arith}
-use mathlib.Core.Path.{_≡_, refl, sym, ap, _∙_}
-use Prim.Native.Nat.{ℕ, _+_, _*_, _-_, _≤_, _<_}
+use mathlib.Core.Path.{sym, ap, _∙_}
+use Prim.Native.Nat.{ℕ}
 use denote.Ref.{now}
-use lib.ListN.{length, getD}
-use lib.ListN.{take, drop, length-set, length-take, length-drop, length-append}
-use mathlib.Core.List.{List, [], _∷_, _++_, append-assoc}
+use mathlib.Core.List.{List}
 use Rattle.outline.specs.Lending.{filled}
 use Rattle.writing.proofs.Turns.{parts, links-body}
 use Rattle.writing.proofs.Small.{link-bytes}

@@ -1,12 +1,9 @@
 use native.Mathlib.Omega.{arith}
-use mathlib.Core.Path.{_≡_, refl, sym, ap, _∙_}
-use Prim.Native.Nat.{ℕ, _+_, _*_, _-_, _≤_, _<_}
+use mathlib.Core.Path.{_≡_, sym, ap, _∙_, ap₂}
+use Prim.Native.Nat.{ℕ, _+_}
 use denote.Ref.{now}
-use lib.ListN.{length, getD}
-use lib.ListN.{take, drop, length-set, length-take, length-drop, length-append}
-use mathlib.Core.List.{List, [], _∷_, _++_, append-assoc}
+use mathlib.Core.List.{List}
 use Rattle.outline.specs.Lending.{filled}
-use mathlib.Core.Path.{ap₂}
 use Rattle.outline.specs.Sheet.{linksIn, linkStart}
 use Rattle.writing.proofs.Turns.{parts, rules-body}
 use Rattle.writing.proofs.Small.{rule-bytes}

@@ -1,12 +1,10 @@
 use native.Mathlib.Omega.{arith}
 use borrow.Author.Needs.{needs}
-use mathlib.Core.Path.{_≡_, refl, sym, ap, _∙_}
-use Prim.Native.Nat.{ℕ, _+_, _*_, _-_, _≤_, _<_}
+use mathlib.Core.Path.{_≡_, refl, sym, _∙_}
+use Prim.Native.Nat.{ℕ, _-_, _≤_}
 use denote.Ref.{now}
-use lib.ListN.{length, getD}
 use mathlib.Core.Bool.{false}
 use Rattle.outline.specs.Tests.{someBelow}
-use Rattle.outline.specs.Network.{Network}
 use Rattle.outline.specs.Sheet.{networkIn}
 use Rattle.outline.specs.Judging.{sameLink, repeated}
 use Rattle.laws.proofs.Tests.{some-more, some-stops}

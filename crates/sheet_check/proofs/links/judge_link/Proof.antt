@@ -1,10 +1,8 @@
 use native.Mathlib.Omega.{arith}
-use mathlib.Core.Path.{_≡_, refl, sym, ap, _∙_}
-use Prim.Native.Nat.{ℕ, _+_, _*_, _-_, _≤_, _<_}
+use mathlib.Core.Path.{_≡_, sym, ap, _∙_, ap₂}
+use Prim.Native.Nat.{ℕ, _+_}
 use denote.Ref.{now}
-use lib.ListN.{length, getD}
 use borrow.Author.Tests.{not-true, not-false}
-use mathlib.Core.Path.{ap₂}
 use mathlib.Core.Bool.{not}
 use Rattle.outline.specs.Sheet.{linkStart, linkIn, networkIn}
 use Rattle.outline.specs.Judging.{goodLink, linkCheck}

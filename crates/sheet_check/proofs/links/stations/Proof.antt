@@ -1,9 +1,5 @@
 use native.Mathlib.Omega.{arith}
-use borrow.Author.Needs.{needs}
-use mathlib.Core.Path.{_≡_, refl, sym, ap, _∙_}
-use Prim.Native.Nat.{ℕ, _+_, _*_, _-_, _≤_, _<_}
-use denote.Ref.{now}
-use lib.ListN.{length, getD}
+use mathlib.Core.Path.{sym}
 use Rattle.laws.proofs.Sheet.{network-stations-in}
 use Rattle.sheet_check.proofs.links.stations.Statement.{statement}
 use Rattle.sheet_check.proofs.links.stations.Tie as tie

@@ -1,11 +1,9 @@
 use native.Mathlib.Omega.{arith}
-use mathlib.Core.Path.{_≡_, refl, sym, ap, _∙_}
-use Prim.Native.Nat.{ℕ, _+_, _*_, _-_, _≤_, _<_}
+use mathlib.Core.Path.{_≡_}
 use denote.Ref.{now}
-use lib.ListN.{length, getD}
-use borrow.Author.Tests.{le-ltb, lt-ltb, le-leb, lt-leb, eq-eqb, ne-eqb}
+use lib.ListN.{length}
+use borrow.Author.Tests.{eq-eqb, ne-eqb}
 use Rattle.outline.specs.Refusals.{demand}
-use Rattle.outline.specs.Tests.{both, within}
 use Rattle.outline.specs.Sheet.{rulesIn, ruleStart}
 use Rattle.outline.specs.SheetJudging.{remainderCheck}
 use Rattle.laws.proofs.Sheet.{start-inside}

@@ -1,9 +1,4 @@
-use native.Mathlib.Omega.{arith}
-use mathlib.Core.Path.{_≡_, refl, sym, ap, _∙_}
-use Prim.Native.Nat.{ℕ, _+_, _*_, _-_, _≤_, _<_}
-use denote.Ref.{now}
-use lib.ListN.{length, getD}
-use borrow.Author.Tests.{le-ltb, lt-ltb, le-leb, lt-leb, eq-eqb, ne-eqb}
+use borrow.Author.Tests.{le-ltb, lt-ltb, eq-eqb, ne-eqb}
 use Rattle.outline.specs.Tests.{both, either, choose}
 use Rattle.outline.specs.Judging.{goodCompany}
 use borrow.Author.Needs.{needs}

@@ -1,13 +1,12 @@
 use native.Mathlib.Omega.{arith}
 use borrow.Author.Needs.{needs}
-use mathlib.Core.Path.{_≡_, refl, sym, ap, _∙_}
-use Prim.Native.Nat.{ℕ, _+_, _*_, _-_, _≤_, _<_}
+use mathlib.Core.Path.{_≡_, refl, sym, _∙_}
+use Prim.Native.Nat.{ℕ, _*_, _-_, _≤_, _<_}
 use denote.Ref.{now}
 use lib.ListN.{length, getD}
-use borrow.Author.Tests.{not-true, not-false}
+use borrow.Author.Tests.{not-true, not-false, ltb-true}
 use mathlib.Core.Bool.{false}
 use lib.Dec.{ltb}
-use borrow.Author.Tests.{ltb-true}
 use borrow.Author.Count.{below-more}
 use Rattle.outline.specs.Tests.{both}
 use Rattle.outline.specs.Fares.{inMap}

@@ -1,8 +1,4 @@
-use native.Mathlib.Omega.{arith}
-use mathlib.Core.Path.{_≡_, refl, sym, ap, _∙_}
-use Prim.Native.Nat.{ℕ, _+_, _*_, _-_, _≤_, _<_}
-use denote.Ref.{now}
-use lib.ListN.{length, getD}
+use mathlib.Core.Path.{refl}
 use Rattle.outline.specs.Fares.{inMap}
 use borrow.Author.Needs.{needs}
 use Rattle.sheet_check.proofs.rules.in_map.Statement.{statement}

@@ -1,17 +1,14 @@
 use native.Mathlib.Omega.{arith}
 use borrow.Author.Needs.{needs}
-use mathlib.Core.Path.{_≡_, refl, sym, ap, _∙_}
-use Prim.Native.Nat.{ℕ, _+_, _*_, _-_, _≤_, _<_}
+use mathlib.Core.Path.{_≡_, refl, sym, ap, _∙_, ap₂}
+use Prim.Native.Nat.{ℕ, _+_, _-_, _≤_, _<_}
 use denote.Ref.{now}
-use lib.ListN.{length, getD}
 use Rattle.outline.specs.declared.Judged.the-variants.{Good}
 use Rattle.outline.specs.Refusals.{firstBelow}
-use Rattle.laws.proofs.Firsts.{first-more, first-stops, first-ends}
+use Rattle.laws.proofs.Firsts.{first-more, first-stops, first-ends, demand-holds, demand-fails}
 use borrow.Author.Tests.{not-true, not-false}
-use mathlib.Core.Path.{ap₂}
-use Rattle.outline.specs.Sheet.{companiesIn, companyStart, linksIn, rulesIn, linkStart, networkIn}
+use Rattle.outline.specs.Sheet.{linksIn, rulesIn, linkStart, networkIn}
 use Rattle.outline.specs.Judging.{goodRule, ruleCheck}
-use Rattle.laws.proofs.Firsts.{demand-holds, demand-fails}
 use Rattle.laws.proofs.Sheet.{network-rules-in, network-rule-in}
 use Rattle.sheet_check.proofs.rules.judge.Statement.{statement}
 use Rattle.sheet_check.proofs.rules.judge.Tie as tie

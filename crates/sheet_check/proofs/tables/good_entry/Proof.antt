@@ -1,4 +1,4 @@
-use borrow.Author.Tests.{le-ltb, lt-ltb, le-leb, lt-leb, eq-eqb, ne-eqb}
+use borrow.Author.Tests.{eq-eqb, ne-eqb}
 use Rattle.outline.specs.Tests.{choose}
 use Rattle.outline.specs.Judging.{goodEntry}
 use Rattle.sheet_check.proofs.tables.good_entry.Statement.{statement}

@@ -7,7 +7,7 @@ use native.Mathlib.Omega.{arith}
 use lib.Dec.{ltb}
 use borrow.Author.Tests.{ltb-true, ltb-false}
 use Rattle.io.specs.Digits.{glyph}
-use Rattle.judging.specs.Digits.{ValueOf}
+use Rattle.text.specs.Digits.{ValueOf}
 
 -- the code of d, one of the first ten digits or a letter
 abbrev pub Coded : ℕ → ℕ → Type 0

@@ -2,9 +2,9 @@
 use mathlib.Core.Logic.{inl, inr, ⊎-elim}
 use native.Mathlib.Omega.{arith}
 use borrow.Author.Needs.{needs}
-use Rattle.judging.proofs.digits.value.Statement.{statement}
-use Rattle.judging.proofs.digits.value.Tie as tie
-use Rattle.judging.proofs.Values.{value-of}
+use Rattle.text.proofs.value.Statement.{statement}
+use Rattle.text.proofs.value.Tie as tie
+use Rattle.text.proofs.Values.{value-of}
 
 returns : tie.Need-returns
 returns c = value-of _ _ (λ l. inl (omega arith, omega arith)) (λ d l e. ⊎-elim (λ p. omega arith) (λ p. omega arith) e)
