@@ -13,3 +13,4 @@ pub mod Entries
 pub mod Admissible
 pub mod GivenRoutes
 pub mod Matching
+pub mod Sheet

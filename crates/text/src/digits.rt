@@ -5,7 +5,7 @@ ghost use lib.ListN.{take};
 ghost use Rattle.text.specs.Digits.{ValueOf};
 
 // The value of a hex digit; 16 of any other byte.
-fn value(x: u8) -> u8
+pub fn value(x: u8) -> u8
     ensures { λ r. ⌜ ValueOf x r ⌝ }
 {
     if x < b'0' {

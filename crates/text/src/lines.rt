@@ -57,13 +57,20 @@ pub fn put_number(out: &mut [u8], at: usize, n: u64) -> usize
     put_text(out, at, &text[..k])
 }
 
-// Puts the line of a refusal.
-pub fn put_refusal(out: &mut [u8], at: usize, x: Refusal) -> usize
+// Puts `refused`, the refusal's number and its place.
+pub fn put_refused(out: &mut [u8], at: usize, x: Refusal) -> usize
     ensures { λ r. ⌜ at ≤ r ⌝ }
 {
     let number = put_text(out, at, b"refused ");
     let space = put_number(out, number, refusal::number(x) as u64);
     let place = put_text(out, space, b" ");
-    let end = put_number(out, place, refusal::place(x) as u64);
+    put_number(out, place, refusal::place(x) as u64)
+}
+
+// Puts the line of a refusal.
+pub fn put_refusal(out: &mut [u8], at: usize, x: Refusal) -> usize
+    ensures { λ r. ⌜ at ≤ r ⌝ }
+{
+    let end = put_refused(out, at, x);
     put_text(out, end, b"\n")
 }
