@@ -1,12 +1,11 @@
 -- Which question is good, and which refusal the first one named is; what an answer to a question says.
-use Prim.Native.Nat.{ℕ, _<_}
+use Prim.Native.Nat.{ℕ}
 use mathlib.Core.Path.{_≡_, refl, sym, ap, subst, _∙_}
 use mathlib.Core.Bool.{true, not}
 use mathlib.Core.List.{List}
-use mathlib.Core.Logic.{_⊎_, inl, inr, ⊎-elim, _↔_}
+use mathlib.Core.Logic.{inl, inr, _↔_}
 use native.Mathlib.Omega.{arith}
-use lib.ListN.{length}
-use borrow.Author.Tests.{ltb-true, lt-ltb, not-true, not-false}
+use borrow.Author.Tests.{ltb-true, lt-ltb, not-true}
 use Rattle.outline.specs.declared.Station.{Station}
 use Rattle.outline.specs.declared.Leg.{Leg}
 use Rattle.outline.specs.declared.Question.{Question}
@@ -17,17 +16,17 @@ use Rattle.outline.specs.declared.Judged.{Judged}
 use Rattle.outline.specs.declared.Judged.the-variants.{Good, Refused}
 use Rattle.outline.specs.Numbers.{mostRides}
 use Rattle.outline.specs.Tests.{within, Within}
-use Rattle.outline.specs.Refusals.{numberOf, placeOf, demand, _andThen_}
+use Rattle.outline.specs.Refusals.{numberOf, placeOf}
 use Rattle.outline.specs.Network.{Network, sameStation}
 use Rattle.outline.specs.Book.{network}
 use Rattle.outline.specs.Judging.{bookCheck}
 use Rattle.outline.specs.Valid.{ValidBook}
 use Rattle.outline.specs.Price.{answerWith, answerOf, refusedAnswer}
-use Rattle.outline.specs.Questions.{Joins, Found, NotFound, Answered, Known, GoodQuestion, known, questionCheck, AnswerTo, Asked}
+use Rattle.outline.specs.Questions.{Joins, Answered, Known, GoodQuestion, known, questionCheck, AnswerTo, Asked}
 use Rattle.laws.proofs.Tests.{true-not-false, fails, both-true, both-holds, within-true, within-holds}
 use Rattle.laws.proofs.Firsts.{refused-not-good, demand-good, demand-holds, then-next, then-refused}
 use Rattle.laws.proofs.Judging.{same-station, same-station-holds, book-good}
-use Rattle.laws.proofs.Named.{same-refusal, Names, names-good, names-demand, demand-passes, demand-stays}
+use Rattle.laws.proofs.Named.{names-good, names-demand, demand-passes, demand-stays}
 
 -- ---- a question
 

@@ -1,5 +1,5 @@
 -- A route is admissible exactly where it has one to four rides and each is good after those before it.
-use Prim.Native.Nat.{ℕ, zero, suc, _+_, _-_, _*_, _≤_, _<_}
+use Prim.Native.Nat.{ℕ, zero, suc, _+_, _-_, _*_, _<_}
 use mathlib.Core.Path.{_≡_, refl, sym, ap, subst, _∙_}
 use mathlib.Core.List.{List, [], _∷_, _++_}
 use mathlib.Core.Logic.{_⊎_, inl, inr, ⊎-elim, _↔_}
@@ -13,10 +13,10 @@ use Rattle.outline.specs.declared.Leg.{Leg}
 use Rattle.outline.specs.Numbers.{mostRides}
 use Rattle.outline.specs.Tests.{Within}
 use Rattle.outline.specs.Network.{Network}
-use Rattle.outline.specs.Routes.{boardedAt, alightedAt, Exists, Change, noRide, rideAt, stationsOf, Distinct, Admissible}
+use Rattle.outline.specs.Routes.{boardedAt, alightedAt, noRide, rideAt, stationsOf, Distinct, Admissible}
 use Rattle.laws.proofs.Tests.{compared}
 use Rattle.laws.specs.Rides.{AllGood}
-use Rattle.laws.proofs.Routes.{Follows, Disjoint, Fresh, GoodRide, next-is}
+use Rattle.laws.proofs.Routes.{Disjoint, GoodRide, next-is}
 
 -- ---- the stations of a route, two to a ride
 

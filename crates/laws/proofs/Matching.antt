@@ -1,25 +1,23 @@
 -- A rule earns its amount on a run exactly where it matches the run, said fact by fact; and that is less than the run costs.
-use Prim.Native.Nat.{ℕ, _+_, _-_, _<_}
+use Prim.Native.Nat.{ℕ, _-_, _<_}
 use mathlib.Core.Path.{_≡_, refl, sym, ap, _∙_}
 use mathlib.Core.Bool.{Bool, true, false}
 use mathlib.Core.List.{List}
 use mathlib.Core.Logic.{_↔_}
 use native.Mathlib.Omega.{arith}
 use lib.ListN.{length}
-use lib.Dec.{ltb, eqb}
+use lib.Dec.{eqb}
 use borrow.Author.Tests.{ltb-true, lt-ltb, eqb-true, eq-eqb}
 use Rattle.outline.specs.declared.Leg.{Leg}
 use Rattle.outline.specs.declared.Joined.{Joined}
 use Rattle.outline.specs.declared.Joined.the-variants.{ByLink, NoLink}
 use Rattle.outline.specs.declared.Reason.{Reason}
-use Rattle.outline.specs.declared.Reason.the-variants.{WrongRides, WrongCompanies, NotBoarded, NotAlighted, NotPermitted, NotDearer, Earned}
-use Rattle.outline.specs.declared.Saving.{Saving}
+use Rattle.outline.specs.declared.Reason.the-variants.{Earned}
 use Rattle.outline.specs.declared.Saving.the-variants.{Nothing, Yen}
-use Rattle.outline.specs.Tests.{allBelow}
 use Rattle.outline.specs.Fares.{Rule, companyAt, inMap}
 use Rattle.outline.specs.Network.{Network}
 use Rattle.outline.specs.Routes.{rideAt, linkAfter}
-use Rattle.outline.specs.Matching.{sumOf, sameCompanies, boards, alights, permits, permitted, unless, reasonOf, savingOf, earns}
+use Rattle.outline.specs.Matching.{sumOf, sameCompanies, permits, permitted, unless, reasonOf, savingOf, earns}
 use Rattle.laws.proofs.Tests.{true-not-false, all-true, all-holds}
 
 -- the link after ride i is one that the rule permits

@@ -1,12 +1,12 @@
 -- Laws of reading a sheet: where its parts begin, what its network's fields are, and that a sheet is good exactly where it is valid.
 use Prim.Native.Nat.{ℕ, zero, suc, _+_, _*_, _-_, _≤_, _<_}
-use mathlib.Core.Path.{_≡_, refl, sym, ap, _∙_}
+use mathlib.Core.Path.{_≡_, refl, ap, _∙_}
 use mathlib.Core.List.{List, _∷_, _++_}
 use mathlib.Core.Logic.{_↔_}
 use native.Mathlib.Numerals.{add-one}
 use native.Mathlib.Omega.{arith}
 use lib.ListN.{length, getD}
-use borrow.Author.Tests.{leb-true, ltb-true, eqb-true, le-leb, lt-ltb, eq-eqb}
+use borrow.Author.Tests.{leb-true, eqb-true, le-leb, lt-ltb, eq-eqb}
 use Rattle.outline.specs.declared.Judged.the-variants.{Good}
 use Rattle.outline.specs.Tests.{part}
 use Rattle.outline.specs.Fares.{Table, fareAt, tableAt, linkAt, ruleAt, noTable, noLink, noRule}

@@ -3,7 +3,7 @@ use outline::Judged;
 use outline::Refusal;
 use sheet_layout::wide;
 ghost use mathlib.Core.Path.{_≡_};
-ghost use Prim.Native.Nat.{_+_, _*_, _≤_, _<_};
+ghost use Prim.Native.Nat.{_+_, _≤_, _<_};
 ghost use lib.ListN.{length};
 ghost use Rattle.outline.specs.Refusals.{firstBelow};
 ghost use Rattle.outline.specs.Network.{sameStation};

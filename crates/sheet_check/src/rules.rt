@@ -10,7 +10,7 @@ ghost use lib.Dec.{ltb};
 ghost use Rattle.outline.specs.Tests.{allBelow};
 ghost use Rattle.outline.specs.Fares.{inMap};
 ghost use Rattle.outline.specs.Refusals.{firstBelow};
-ghost use Rattle.outline.specs.Sheet.{companiesIn, rulesIn, ruleNumbers, ruleIn, networkIn};
+ghost use Rattle.outline.specs.Sheet.{ruleNumbers, ruleIn, networkIn};
 ghost use Rattle.outline.specs.SheetValid.{SheetLaidOut};
 ghost use Rattle.outline.specs.Judging.{goodCompany, goodMap, goodMaps, goodRule, ruleCheck};
 ghost use Rattle.sheet_check.specs.Parts.{GoodCompanies};

@@ -2,9 +2,9 @@
 use outline::Judged;
 use outline::Refusal;
 ghost use mathlib.Core.Path.{_≡_};
-ghost use Prim.Native.Nat.{ℕ, _+_, _≤_, _<_};
-ghost use lib.ListN.{length, getD};
-ghost use Rattle.outline.specs.Sheet.{tableNumbers, fareIndex, tableIn, faresIn};
+ghost use Prim.Native.Nat.{ℕ, _+_, _<_};
+ghost use lib.ListN.{getD};
+ghost use Rattle.outline.specs.Sheet.{fareIndex, tableIn, faresIn};
 ghost use Rattle.outline.specs.SheetValid.{SheetLaidOut};
 ghost use Rattle.outline.specs.Judging.{goodEntry, rowCheck, tableCheck, tablesCheck};
 ghost use Rattle.outline.specs.SheetJudging.{entryIndex};

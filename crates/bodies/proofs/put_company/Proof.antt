@@ -1,3 +1,4 @@
+-- `bodies::put_company` meets its contract.
 use native.Mathlib.Omega.{arith}
 use mathlib.Core.Path.{refl, ap, _∙_}
 use Prim.Native.Nat.{ℕ}

@@ -1,3 +1,4 @@
+-- `bodies::put_entry` meets its contract.
 use native.Mathlib.Omega.{arith}
 use mathlib.Core.Path.{refl}
 use denote.Ref.{now}

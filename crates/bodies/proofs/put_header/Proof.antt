@@ -1,3 +1,4 @@
+-- `bodies::put_header` meets its contract.
 use native.Mathlib.Omega.{arith}
 use lib.ListN.{length-set}
 use Rattle.filling.proofs.Filled.{four-stores}

@@ -1,3 +1,4 @@
+-- `bodies::put_word` meets its contract.
 use Rattle.outline.specs.Writing.{twoBytes}
 use Rattle.filling.proofs.Filled.{two-stores}
 use borrow.Author.Needs.{needs}

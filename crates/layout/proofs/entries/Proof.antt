@@ -1,3 +1,4 @@
+-- `layout::entries` meets its contract.
 use native.Mathlib.Omega.{arith}
 use Rattle.laws.proofs.Reading.{small-product}
 use borrow.Author.Needs.{needs}

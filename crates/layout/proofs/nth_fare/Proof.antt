@@ -1,5 +1,5 @@
-use native.Mathlib.Omega.{arith}
-use mathlib.Core.Path.{_≡_, refl, sym, ap, _∙_}
+-- `layout::nth_fare` meets its contract.
+use mathlib.Core.Path.{sym, _∙_}
 use Rattle.laws.proofs.Reading.{entry-at}
 use borrow.Author.Needs.{needs}
 use Rattle.layout.proofs.nth_fare.Statement.{statement}

@@ -1,8 +1,7 @@
-use native.Mathlib.Omega.{arith}
-use mathlib.Core.Path.{_≡_, refl, sym, ap, _∙_}
-use Prim.Native.Nat.{ℕ, _+_, _*_, _-_, _≤_, _<_}
+-- `layout::rule_first` meets its contract.
+use mathlib.Core.Path.{ap, _∙_}
+use Prim.Native.Nat.{ℕ, _*_, _-_}
 use denote.Ref.{now}
-use lib.ListN.{length, getD}
 use native.Mathlib.Nat.{add-zero}
 use Rattle.outline.specs.Tests.{part}
 use Rattle.laws.proofs.Reading.{rule-first}

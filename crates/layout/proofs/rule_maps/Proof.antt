@@ -1,8 +1,6 @@
-use native.Mathlib.Omega.{arith}
-use mathlib.Core.Path.{_≡_, refl, sym, ap, _∙_}
-use Prim.Native.Nat.{ℕ, _+_, _*_, _-_, _≤_, _<_}
-use denote.Ref.{now}
-use lib.ListN.{length, getD}
+-- `layout::rule_maps` meets its contract.
+use mathlib.Core.Path.{_∙_}
+use Prim.Native.Nat.{_-_}
 use Rattle.laws.proofs.Reading.{rule-maps}
 use borrow.Author.Needs.{needs}
 use Rattle.layout.proofs.rule_maps.Statement.{statement}

@@ -1,3 +1,4 @@
+-- `numbers::put_counts` meets its contract.
 use native.Mathlib.Omega.{arith}
 use lib.ListN.{length-set}
 use Rattle.filling.proofs.Filled.{three-stores}

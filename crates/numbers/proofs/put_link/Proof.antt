@@ -1,3 +1,4 @@
+-- `numbers::put_link` meets its contract.
 use native.Mathlib.Omega.{arith}
 use lib.ListN.{length-set}
 use Rattle.outline.specs.Sheet.{linkSheet}

@@ -1,3 +1,4 @@
+-- `reading::sheet_length` meets its contract.
 use native.Mathlib.Omega.{arith}
 use denote.Ref.{now}
 use Rattle.outline.specs.Book.{faresOf}

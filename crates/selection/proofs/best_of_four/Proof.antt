@@ -1,3 +1,4 @@
+-- `selection::best_of_four` meets its contract.
 use Rattle.selection.proofs.Fronts.{sound-one, sound-two, chosen-next}
 use Rattle.outline.specs.Choosing.{bestFrom}
 use Rattle.selection.specs.Chosen.{earnIn}

@@ -1,3 +1,4 @@
+-- `sheet::read` meets its contract.
 use mathlib.Core.Path.{sym, _∙_}
 use Rattle.outline.specs.Lending.{readAnswer, readLeaves}
 use Rattle.filling.proofs.Answers.{answers-refused}

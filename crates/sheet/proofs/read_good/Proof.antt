@@ -1,3 +1,4 @@
+-- `sheet::read_good` meets its contract.
 use mathlib.Core.Path.{ap, _∙_}
 use Rattle.laws.proofs.Judging.{book-good}
 use Rattle.outline.specs.declared.Written.the-variants.{Wrote}

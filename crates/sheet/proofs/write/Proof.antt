@@ -1,3 +1,4 @@
+-- `sheet::write` meets its contract.
 use mathlib.Core.Path.{sym, _∙_}
 use Rattle.outline.specs.Lending.{writeAnswer, writeLeaves}
 use Rattle.filling.proofs.Answers.{answers-refused}

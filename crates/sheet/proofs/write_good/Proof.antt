@@ -1,3 +1,4 @@
+-- `sheet::write_good` meets its contract.
 use mathlib.Core.Path.{ap, _∙_}
 use Rattle.laws.proofs.Sheet.{sheet-good}
 use Rattle.outline.specs.declared.Written.the-variants.{Wrote}

@@ -1,3 +1,4 @@
+-- `sheet_layout::company_start` meets its contract.
 use native.Mathlib.Omega.{arith}
 use borrow.Author.Needs.{needs}
 use mathlib.Core.Path.{_≡_, sym, ap, _∙_, ap₂}

@@ -1,3 +1,4 @@
+-- `sheet_layout::numbers` meets its contract.
 use mathlib.Core.Path.{refl}
 use denote.Ref.{now}
 use Rattle.laws.proofs.Reading.{lent-part}

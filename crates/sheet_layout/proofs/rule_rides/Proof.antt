@@ -1,3 +1,4 @@
+-- `sheet_layout::rule_rides` meets its contract.
 use mathlib.Core.Path.{refl}
 use Rattle.outline.specs.Sheet.{ruleIn}
 use borrow.Author.Needs.{needs}

@@ -1,3 +1,4 @@
+-- `sheets::main` meets its contract.
 use borrow.Author.Needs.{needs}
 use mathlib.Core.Path.{_≡_}
 use lib.ListN.{length}

@@ -1,3 +1,4 @@
+-- `writing::book_length` meets its contract.
 use native.Mathlib.Omega.{arith}
 use denote.Ref.{now}
 use Rattle.writing.proofs.Turns.{parts}

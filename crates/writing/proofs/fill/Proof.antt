@@ -1,3 +1,4 @@
+-- `writing::fill` meets its contract.
 use Rattle.outline.specs.Writing.{bookOf, bodyIn, headerBytes, entryBytes}
 use Rattle.filling.proofs.Filled.{length-filled, filled-lent}
 use native.Mathlib.Omega.{arith}

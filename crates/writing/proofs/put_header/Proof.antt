@@ -1,3 +1,4 @@
+-- `writing::put_header` meets its contract.
 use denote.Ref.{now}
 use Rattle.outline.specs.Writing.{headerBytes}
 use Rattle.laws.proofs.Sheet.{companies-in, links-in, rules-in}

@@ -1,3 +1,4 @@
+-- `routes::given::judge` meets its contract.
 use mathlib.Core.Bool.{true}
 use Rattle.routes.proofs.Turns.{count-is, turn-good, turn-bad, turn-more, read-length, read-bad, read-good}
 use Rattle.laws.proofs.Given.{whole-is, route-length, route-at}
@@ -11,9 +12,9 @@ use lib.ListN.{length, take}
 use denote.Ref.{now}
 use borrow.Author.Tests.{not-true, not-false}
 use borrow.Author.Needs.{needs}
-use Prim.Native.Nat.{ℕ, _+_, _*_, _-_, _≤_, _<_}
+use Prim.Native.Nat.{_-_, _≤_, _<_}
 use native.Mathlib.Omega.{arith}
-use mathlib.Core.Path.{_≡_, refl, sym, ap, _∙_}
+use mathlib.Core.Path.{_≡_, refl, sym, _∙_}
 use Rattle.routes.proofs.given.judge.Statement.{statement}
 use Rattle.routes.proofs.given.judge.Tie as tie
 

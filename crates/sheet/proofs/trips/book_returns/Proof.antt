@@ -1,3 +1,4 @@
+-- `sheet::trips::book_returns` meets its contract.
 use mathlib.Core.Path.{refl, sym}
 use denote.Ref.{now}
 use lib.Seq.{length-take-le}

@@ -1,3 +1,4 @@
+-- `sheet::trips::book_written` meets its contract.
 use native.Mathlib.Omega.{arith}
 use mathlib.Core.Path.{_∙_}
 use denote.Ref.{now}

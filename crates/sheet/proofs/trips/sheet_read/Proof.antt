@@ -1,3 +1,4 @@
+-- `sheet::trips::sheet_read` meets its contract.
 use mathlib.Core.Path.{_∙_}
 use denote.Ref.{now}
 use Rattle.outline.specs.declared.Judged.the-variants.{Good}

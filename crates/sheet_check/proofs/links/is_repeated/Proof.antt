@@ -1,3 +1,4 @@
+-- `sheet_check::links::is_repeated` meets its contract.
 use native.Mathlib.Omega.{arith}
 use borrow.Author.Needs.{needs}
 use mathlib.Core.Path.{_≡_, refl, sym, _∙_}

@@ -1,3 +1,4 @@
+-- `sheet_check::links::same_station` meets its contract.
 use borrow.Author.Tests.{eq-eqb, ne-eqb}
 use Rattle.outline.specs.Tests.{both}
 use Rattle.outline.specs.Network.{sameStation}

@@ -1,3 +1,4 @@
+-- `sheet_check::links::stations` meets its contract.
 use native.Mathlib.Omega.{arith}
 use mathlib.Core.Path.{sym}
 use Rattle.laws.proofs.Sheet.{network-stations-in}

@@ -1,3 +1,4 @@
+-- `sheet_check::parts::judge_company` meets its contract.
 use native.Mathlib.Omega.{arith}
 use Prim.Native.Nat.{_+_, _≤_, _<_}
 use denote.Ref.{now}

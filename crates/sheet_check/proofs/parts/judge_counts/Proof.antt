@@ -1,3 +1,4 @@
+-- `sheet_check::parts::judge_counts` meets its contract.
 use borrow.Author.Tests.{le-ltb, lt-ltb, le-leb, lt-leb, eq-eqb, ne-eqb}
 use Rattle.outline.specs.Refusals.{demand}
 use Rattle.outline.specs.Tests.{both, within}

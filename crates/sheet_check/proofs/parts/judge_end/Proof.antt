@@ -1,3 +1,4 @@
+-- `sheet_check::parts::judge_end` meets its contract.
 use native.Mathlib.Omega.{arith}
 use mathlib.Core.Path.{_≡_}
 use denote.Ref.{now}

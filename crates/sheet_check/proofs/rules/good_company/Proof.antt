@@ -1,3 +1,4 @@
+-- `sheet_check::rules::good_company` meets its contract.
 use borrow.Author.Tests.{le-ltb, lt-ltb, eq-eqb, ne-eqb}
 use Rattle.outline.specs.Tests.{both, either, choose}
 use Rattle.outline.specs.Judging.{goodCompany}

@@ -1,3 +1,4 @@
+-- `sheet_check::rules::in_map` meets its contract.
 use mathlib.Core.Path.{refl}
 use Rattle.outline.specs.Fares.{inMap}
 use borrow.Author.Needs.{needs}

@@ -1,3 +1,4 @@
+-- `sheet_check::tables::good_entry` meets its contract.
 use borrow.Author.Tests.{eq-eqb, ne-eqb}
 use Rattle.outline.specs.Tests.{choose}
 use Rattle.outline.specs.Judging.{goodEntry}

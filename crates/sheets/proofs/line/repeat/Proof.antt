@@ -1,3 +1,4 @@
+-- `sheets::line::repeat` meets its contract.
 use borrow.Author.Needs.{needs}
 use mathlib.Core.Path.{_≡_}
 use lib.ListN.{length}

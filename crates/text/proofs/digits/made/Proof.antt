@@ -1,10 +1,11 @@
-use lib.ListN.{length, take, drop}
+-- `text::digits::made` meets its contract.
+use lib.ListN.{length, take}
 use Prim.Native.Nat.{_/_}
 use denote.Ref.{now}
-use Prim.Native.Nat.{ℕ, _+_, _*_, _-_, _≤_, _<_}
+use Prim.Native.Nat.{ℕ, _-_, _≤_}
 use lib.Seq.{take-all}
 use native.Mathlib.Omega.{arith}
-use mathlib.Core.Path.{_≡_, refl, sym, ap, _∙_}
+use mathlib.Core.Path.{_≡_, sym, ap}
 use borrow.Author.Needs.{needs}
 use Rattle.text.proofs.digits.made.Statement.{statement}
 use Rattle.text.proofs.digits.made.Tie as tie

@@ -1,3 +1,4 @@
+-- `text::lines::put_text` meets its contract.
 use mathlib.Core.List.{List}
 use lib.Seq.{paste, paste-zero, paste-suc}
 use lib.ListN.{length, getD, set}
@@ -5,9 +6,9 @@ use native.Mathlib.Numerals.{add-one}
 use mathlib.Core.Logic.{inl, inr}
 use denote.Ref.{now}
 use borrow.Author.Needs.{needs}
-use Prim.Native.Nat.{ℕ, _+_, _*_, _-_, _≤_, _<_}
+use Prim.Native.Nat.{ℕ, _+_, _-_, _≤_, _<_}
 use native.Mathlib.Omega.{arith}
-use mathlib.Core.Path.{_≡_, refl, sym, ap, _∙_}
+use mathlib.Core.Path.{_≡_, sym, ap, _∙_}
 use Rattle.text.proofs.lines.put_text.Statement.{statement}
 use Rattle.text.proofs.lines.put_text.Tie as tie
 

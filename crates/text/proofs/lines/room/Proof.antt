@@ -1,7 +1,6 @@
+-- `text::lines::room` meets its contract.
 use Rattle.outline.specs.Tests.{both, choose}
-use borrow.Author.Tests.{le-ltb, lt-ltb, le-leb, lt-leb, eq-eqb, ne-eqb}
-use native.Mathlib.Omega.{arith}
-use mathlib.Core.Path.{_≡_, refl, sym, ap, _∙_}
+use borrow.Author.Tests.{le-ltb, lt-ltb, le-leb, lt-leb}
 use borrow.Author.Needs.{needs}
 use Rattle.text.proofs.lines.room.Statement.{statement}
 use Rattle.text.proofs.lines.room.Tie as tie
