@@ -16,12 +16,12 @@ fn read_good(book: &[u8], sheet: &mut [u16]) -> Written
     ensures { λ r. ⌜ r ≡ readAnswer (now (book .entry)) (now (sheet .entry)) ⌝ }
     ensures { λ _. ⌜ now (sheet .exit) ≡ readLeaves (now (book .entry)) (now (sheet .entry)) ⌝ }
 {
-    let long = reading::sheet_length(book);
-    if sheet.len() < long {
+    let numbers = reading::sheet_length(book);
+    if sheet.len() < numbers {
         return Written::NotWritten(Refusal::NoRoom);
     }
     reading::fill(book, sheet);
-    Written::Wrote(long)
+    Written::Wrote(numbers)
 }
 
 // Reads a book into a lent sheet.
@@ -42,12 +42,12 @@ fn write_good(sheet: &[u16], book: &mut [u8]) -> Written
     ensures { λ r. ⌜ r ≡ writeAnswer (now (sheet .entry)) (now (book .entry)) ⌝ }
     ensures { λ _. ⌜ now (book .exit) ≡ writeLeaves (now (sheet .entry)) (now (book .entry)) ⌝ }
 {
-    let long = writing::book_length(sheet);
-    if book.len() < long {
+    let bytes = writing::book_length(sheet);
+    if book.len() < bytes {
         return Written::NotWritten(Refusal::NoRoom);
     }
     writing::fill(sheet, book);
-    Written::Wrote(long)
+    Written::Wrote(bytes)
 }
 
 // Writes a sheet's book into a lent buffer.

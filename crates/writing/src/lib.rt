@@ -16,12 +16,12 @@ fn companies_length(sheet: &[u16]) -> usize
     let n = sheet_layout::companies(sheet);
     let mut at: usize = sheet_layout::COUNTS;
     let mut long: usize = 0;
-    let mut c: u16 = 0;
-    while c < n {
+    let mut k: u16 = 0;
+    while k < n {
         let stations = sheet[at];
         long = long + layout::company_length(bodies::byte(stations));
         at = at + sheet_layout::table_numbers(stations);
-        c += 1;
+        k += 1;
     }
     long
 }
@@ -78,15 +78,15 @@ fn put_entries(sheet: &[u16], book: &mut [u8]) -> usize
     let mut at: usize = sheet_layout::COUNTS;
     let mut offset = first_body(sheet);
     let mut to: usize = 0;
-    let mut c: u16 = 0;
-    while c < n {
+    let mut e: u16 = 0;
+    while e < n {
         let stations = sheet[at];
         let long = layout::company_length(bodies::byte(stations));
         bodies::put_entry(offset, long, &mut book[to..]);
         at = at + sheet_layout::table_numbers(stations);
         offset = offset + long;
         to = to + bodies::ENTRY;
-        c += 1;
+        e += 1;
     }
     offset
 }

@@ -32,7 +32,7 @@ mul-stations : tie.Need-mul-stations Inv-loop μ-loop
 mul-stations c =
     let a = c .before .before .before .before in
     let s = now (a .args .sheet) in
-    let k = c .before .loop .c in
+    let k = c .before .loop .k in
     let h : k < companiesIn s = omega (arith, c .before .loop .inv .0, c .loop-test .taken) in
     let t = turn s (a .pre) k (c .before .loop .at) h (c .before .loop .inv .2) in
     omega (arith, t .inside)
@@ -41,7 +41,7 @@ shared-slice-read-stations : tie.Need-shared-slice-read-stations Inv-loop μ-loo
 shared-slice-read-stations c =
     let a = c .before .before .before .before .before in
     let s = now (a .args .sheet) in
-    let k = c .before .before .loop .c in
+    let k = c .before .before .loop .k in
     let h : k < companiesIn s = omega (arith, c .before .before .loop .inv .0, c .before .loop-test .taken) in
     let t = turn s (a .pre) k (c .before .before .loop .at) h (c .before .before .loop .inv .2) in
     omega (arith, t .inside)
@@ -50,7 +50,7 @@ byte-requires : tie.Need-byte-requires Inv-loop μ-loop
 byte-requires c κs =
     let a = c .before .before .before .before .before in
     let s = now (a .args .sheet) in
-    let k = c .before .before .loop .c in
+    let k = c .before .before .loop .k in
     let h : k < companiesIn s = omega (arith, c .before .before .loop .inv .0, c .before .loop-test .taken) in
     let t = turn s (a .pre) k (c .before .before .loop .at) h (c .before .before .loop .inv .2) in
     omega (arith, t .few)
@@ -62,7 +62,7 @@ add-long : tie.Need-add-long Inv-loop μ-loop
 add-long c =
     let a = c .before .before .before .before .before .before .before in
     let s = now (a .args .sheet) in
-    let k = c .before .before .before .before .loop .c in
+    let k = c .before .before .before .before .loop .k in
     let h : k < companiesIn s = omega (arith, c .before .before .before .before .loop .inv .0, c .before .before .before .loop-test .taken) in
     let t = turn s (a .pre) k (c .before .before .before .before .loop .at) h (c .before .before .before .before .loop .inv .2) in
     let one : c .company-length .result ≡ length (bodyIn (faresIn s) k) = c .company-length .ensures ∙ ap (λ (n : ℕ). companyLength n) (c .before .byte .ensures) ∙ sym (t .long) in
@@ -75,13 +75,13 @@ add-at : tie.Need-add-at Inv-loop μ-loop
 add-at c =
     let a = c .before .before .before .before .before .before .before .before in
     let s = now (a .args .sheet) in
-    let k = c .before .before .before .before .before .loop .c in
+    let k = c .before .before .before .before .before .loop .k in
     let h : k < companiesIn s = omega (arith, c .before .before .before .before .before .loop .inv .0, c .before .before .before .before .loop-test .taken) in
     let t = turn s (a .pre) k (c .before .before .before .before .before .loop .at) h (c .before .before .before .before .before .loop .inv .2) in
     omega (arith, t .inside, c .table-numbers .ensures .0)
 
-add-c : tie.Need-add-c Inv-loop μ-loop
-add-c c = search needs
+add-k : tie.Need-add-k Inv-loop μ-loop
+add-k c = search needs
 
 loop-less : tie.Need-loop-less Inv-loop μ-loop
 loop-less c = search needs
@@ -90,14 +90,14 @@ loop-again : tie.Need-loop-again Inv-loop μ-loop
 loop-again c =
     let a = c .before .before .before .before .before .before .before .before in
     let s = now (a .args .sheet) in
-    let k = c .before .before .before .before .before .loop .c in
+    let k = c .before .before .before .before .before .loop .k in
     let h : k < companiesIn s = omega (arith, c .before .before .before .before .before .loop .inv .0, c .before .before .before .before .loop-test .taken) in
     let t = turn s (a .pre) k (c .before .before .before .before .before .loop .at) h (c .before .before .before .before .before .loop .inv .2) in
     let one : c .before .company-length .result ≡ length (bodyIn (faresIn s) k) = c .before .company-length .ensures ∙ ap (λ (n : ℕ). companyLength n) (c .before .before .byte .ensures) ∙ sym (t .long) in
     (search needs, search needs, ap (λ (n : ℕ). c .before .before .before .before .before .loop .at + n) (c .table-numbers .ensures .0) ∙ t .next, omega (arith, c .before .before .before .before .before .loop .inv .3, order-more-length (bodyIn (faresIn s)) k))
 
 returns : tie.Need-returns Inv-loop μ-loop
-returns c = let e : c .before .loop .c ≡ companiesIn (now (c .before .before .before .before .args .sheet)) = omega (arith, c .before .loop .inv .0, c .loop-test .left) in c .before .loop .inv .3 ∙ ap (λ (j : ℕ). length (inOrder (bodyIn (faresIn (now (c .before .before .before .before .args .sheet)))) j)) e
+returns c = let e : c .before .loop .k ≡ companiesIn (now (c .before .before .before .before .args .sheet)) = omega (arith, c .before .loop .inv .0, c .loop-test .left) in c .before .loop .inv .3 ∙ ap (λ (j : ℕ). length (inOrder (bodyIn (faresIn (now (c .before .before .before .before .args .sheet)))) j)) e
 
 pub companies-length-spec : {M : Type 1} → statement M
 companies-length-spec =
@@ -114,7 +114,7 @@ companies-length-spec =
     add-long
     table-numbers-requires
     add-at
-    add-c
+    add-k
     loop-less
     loop-again
     returns)

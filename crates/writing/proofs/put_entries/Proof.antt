@@ -37,7 +37,7 @@ mul-stations : tie.Need-mul-stations Inv-loop μ-loop
 mul-stations c =
     let a = c .before .before .before .before .before .before in
     let s = now (a .args .sheet) in
-    let k = c .before .loop .c in
+    let k = c .before .loop .e in
     let h : k < companiesIn s = omega (arith, c .before .loop .inv .0, c .loop-test .taken) in
     let t = turn s (a .pre .0) k (c .before .loop .at) h (c .before .loop .inv .2) in
     omega (arith, t .inside)
@@ -46,7 +46,7 @@ shared-slice-read-stations : tie.Need-shared-slice-read-stations Inv-loop μ-loo
 shared-slice-read-stations c =
     let a = c .before .before .before .before .before .before .before in
     let s = now (a .args .sheet) in
-    let k = c .before .before .loop .c in
+    let k = c .before .before .loop .e in
     let h : k < companiesIn s = omega (arith, c .before .before .loop .inv .0, c .before .loop-test .taken) in
     let t = turn s (a .pre .0) k (c .before .before .loop .at) h (c .before .before .loop .inv .2) in
     omega (arith, t .inside)
@@ -55,7 +55,7 @@ byte-requires : tie.Need-byte-requires Inv-loop μ-loop
 byte-requires c κs =
     let a = c .before .before .before .before .before .before .before in
     let s = now (a .args .sheet) in
-    let k = c .before .before .loop .c in
+    let k = c .before .before .loop .e in
     let h : k < companiesIn s = omega (arith, c .before .before .loop .inv .0, c .before .loop-test .taken) in
     let t = turn s (a .pre .0) k (c .before .before .loop .at) h (c .before .before .loop .inv .2) in
     omega (arith, t .few)
@@ -67,7 +67,7 @@ sub-put-entry : tie.Need-sub-put-entry Inv-loop μ-loop
 sub-put-entry c =
     let a = c .before .before .before .before .before .before .before .before .before in
     let s = now (a .args .sheet) in
-    let k = c .before .before .before .before .loop .c in
+    let k = c .before .before .before .before .loop .e in
     let h : k < companiesIn s = omega (arith, c .before .before .before .before .loop .inv .0, c .before .before .before .loop-test .taken) in
     let t = turn s (a .pre .0) k (c .before .before .before .before .loop .at) h (c .before .before .before .before .loop .inv .2) in
     omega (arith, c .before .before .before .before .loop .inv .4, c .before .before .before .before .loop .inv .5, a .pre .1)
@@ -76,7 +76,7 @@ part-put-entry-start : tie.Need-part-put-entry-start Inv-loop μ-loop
 part-put-entry-start c =
     let a = c .before .before .before .before .before .before .before .before .before in
     let s = now (a .args .sheet) in
-    let k = c .before .before .before .before .loop .c in
+    let k = c .before .before .before .before .loop .e in
     let h : k < companiesIn s = omega (arith, c .before .before .before .before .loop .inv .0, c .before .before .before .loop-test .taken) in
     let t = turn s (a .pre .0) k (c .before .before .before .before .loop .at) h (c .before .before .before .before .loop .inv .2) in
     omega (arith, c .before .before .before .before .loop .inv .4, c .before .before .before .before .loop .inv .5, a .pre .1)
@@ -88,7 +88,7 @@ put-entry-requires : tie.Need-put-entry-requires Inv-loop μ-loop
 put-entry-requires c κs =
     let a = c .before .before .before .before .before .before .before .before .before .before in
     let s = now (a .args .sheet) in
-    let k = c .before .before .before .before .before .loop .c in
+    let k = c .before .before .before .before .before .loop .e in
     let h : k < companiesIn s = omega (arith, c .before .before .before .before .before .loop .inv .0, c .before .before .before .before .loop-test .taken) in
     let t = turn s (a .pre .0) k (c .before .before .before .before .before .loop .at) h (c .before .before .before .before .before .loop .inv .2) in
     let one : c .before .company-length .result ≡ length (bodyIn (faresIn s) k) = c .before .company-length .ensures ∙ ap (λ (n : ℕ). companyLength n) (c .before .before .byte .ensures) ∙ sym (t .long) in
@@ -102,7 +102,7 @@ add-at : tie.Need-add-at Inv-loop μ-loop
 add-at c =
     let a = c .before .before .before .before .before .before .before .before .before .before .before .before .before .before in
     let s = now (a .args .sheet) in
-    let k = c .before .before .before .before .before .before .before .before .before .loop .c in
+    let k = c .before .before .before .before .before .before .before .before .before .loop .e in
     let h : k < companiesIn s = omega (arith, c .before .before .before .before .before .before .before .before .before .loop .inv .0, c .before .before .before .before .before .before .before .before .loop-test .taken) in
     let t = turn s (a .pre .0) k (c .before .before .before .before .before .before .before .before .before .loop .at) h (c .before .before .before .before .before .before .before .before .before .loop .inv .2) in
     omega (arith, t .inside, c .table-numbers .ensures .0)
@@ -111,7 +111,7 @@ add-offset : tie.Need-add-offset Inv-loop μ-loop
 add-offset c =
     let a = c .before .before .before .before .before .before .before .before .before .before .before .before .before .before in
     let s = now (a .args .sheet) in
-    let k = c .before .before .before .before .before .before .before .before .before .loop .c in
+    let k = c .before .before .before .before .before .before .before .before .before .loop .e in
     let h : k < companiesIn s = omega (arith, c .before .before .before .before .before .before .before .before .before .loop .inv .0, c .before .before .before .before .before .before .before .before .loop-test .taken) in
     let t = turn s (a .pre .0) k (c .before .before .before .before .before .before .before .before .before .loop .at) h (c .before .before .before .before .before .before .before .before .before .loop .inv .2) in
     let one : c .before .before .before .before .before .company-length .result ≡ length (bodyIn (faresIn s) k) = c .before .before .before .before .before .company-length .ensures ∙ ap (λ (n : ℕ). companyLength n) (c .before .before .before .before .before .before .byte .ensures) ∙ sym (t .long) in
@@ -122,14 +122,14 @@ add-to : tie.Need-add-to Inv-loop μ-loop
 add-to c =
     let a = c .before .before .before .before .before .before .before .before .before .before .before .before .before .before in
     let s = now (a .args .sheet) in
-    let k = c .before .before .before .before .before .before .before .before .before .loop .c in
+    let k = c .before .before .before .before .before .before .before .before .before .loop .e in
     let h : k < companiesIn s = omega (arith, c .before .before .before .before .before .before .before .before .before .loop .inv .0, c .before .before .before .before .before .before .before .before .loop-test .taken) in
     let t = turn s (a .pre .0) k (c .before .before .before .before .before .before .before .before .before .loop .at) h (c .before .before .before .before .before .before .before .before .before .loop .inv .2) in
     let p = parts s (a .pre .0) in
     omega (arith, c .before .before .before .before .before .before .before .before .before .loop .inv .4, p .few)
 
-add-c : tie.Need-add-c Inv-loop μ-loop
-add-c c = search needs
+add-e : tie.Need-add-e Inv-loop μ-loop
+add-e c = search needs
 
 loop-less : tie.Need-loop-less Inv-loop μ-loop
 loop-less c = search needs
@@ -139,7 +139,7 @@ unfolding entryBytes
 loop-again c =
     let a = c .before .before .before .before .before .before .before .before .before .before .before .before .before .before in
     let s = now (a .args .sheet) in
-    let k = c .before .before .before .before .before .before .before .before .before .loop .c in
+    let k = c .before .before .before .before .before .before .before .before .before .loop .e in
     let h : k < companiesIn s = omega (arith, c .before .before .before .before .before .before .before .before .before .loop .inv .0, c .before .before .before .before .before .before .before .before .loop-test .taken) in
     let t = turn s (a .pre .0) k (c .before .before .before .before .before .before .before .before .before .loop .at) h (c .before .before .before .before .before .before .before .before .before .loop .inv .2) in
     let one : c .before .before .before .before .before .company-length .result ≡ length (bodyIn (faresIn s) k) = c .before .before .before .before .before .company-length .ensures ∙ ap (λ (n : ℕ). companyLength n) (c .before .before .before .before .before .before .byte .ensures) ∙ sym (t .long) in
@@ -158,7 +158,7 @@ same-length c = c .before .loop .inv .5
 returns : tie.Need-returns Inv-loop μ-loop
 returns c =
     let s = now (c .before .before .before .before .before .before .args .sheet) in
-    let e : c .before .loop .c ≡ companiesIn s = omega (arith, c .before .loop .inv .0, c .loop-test .left) in
+    let e : c .before .loop .e ≡ companiesIn s = omega (arith, c .before .loop .inv .0, c .loop-test .left) in
     (c .before .loop .inv .3 ∙ ap (offsetIn (faresIn s)) e, c .before .loop .inv .6 ∙ ap (λ (j : ℕ). filled (inOrder (entryBytes (faresIn s)) j) (now (c .before .before .before .before .before .before .args .book))) e)
 
 pub put-entries-spec : {M : Type 1} → statement M
@@ -182,7 +182,7 @@ put-entries-spec =
     add-at
     add-offset
     add-to
-    add-c
+    add-e
     loop-less
     loop-again
     same-length
