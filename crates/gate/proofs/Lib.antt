@@ -1,0 +1,7 @@
+pub mod Filled
+pub mod Places
+pub mod Telling
+pub mod Putting
+pub mod Answering
+pub mod Unique
+pub mod Words
