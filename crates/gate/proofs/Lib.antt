@@ -4,4 +4,4 @@ pub mod Telling
 pub mod Putting
 pub mod Answering
 pub mod Unique
-pub mod Words
+pub mod Parts
