@@ -9,7 +9,8 @@ How to run it. From the repository's root:
 
 prints a book as one line of hex digits. The names: `q` (book Q), `dear_q`
 (book Q with a first fare of 10,000, which is refused), `two_companies` (the
-pair lister's example), `least` (one company of two stations), `largest` (16
+pair lister's example), `two_ways` (a discount makes the dearer of two routes
+the cheaper), `spring` (a discount pays a walk that meets a station twice), `least` (one company of two stations), `largest` (16
 companies of 40 stations, 128 links, 32 rules).
 """
 
@@ -97,6 +98,30 @@ def two_companies():
     )
 
 
+def two_ways():
+    """Routes of 300 less 40 and of 270: by A1-B0 two rides of 135, by A2-B2 two of 150 with a rule of 40 for that link."""
+    here, there = both_ways(3, {}), both_ways(3, {})
+    here[0][1], here[0][2], there[0][1], there[2][1] = 135, 150, 135, 150
+    return book([here, there], [(0, 1, 1, 0), (0, 2, 1, 2)], [rule([0, 1], 40, [0], [1], [1])])
+
+
+def spring():
+    """A book in which a discount for four companies pays a walk through A1 twice, from A0 to C1.
+
+    The walk A0-A1, B0-B1, A2-A1, C0-C1 costs 220 less 150. Cheapest before discounts is A0-A1, C0-C1 for 200. The cheapest route
+    is A0-A3, C2-C1 for 230 less 40.
+    """
+    return book(
+        [
+            both_ways(4, {(0, 1): 100, (1, 2): 10, (0, 3): 150}),
+            both_ways(2, {(0, 1): 10}),
+            both_ways(3, {(0, 1): 100, (1, 2): 80}),
+        ],
+        [(0, 1, 1, 0), (0, 2, 1, 1), (0, 1, 2, 0), (0, 3, 2, 2)],
+        [rule([0, 1, 0, 2], 150, [0], [1], [0, 1, 2]), rule([0, 2], 40, [0], [1], [3])],
+    )
+
+
 def least():
     """One company of two stations that sells nothing."""
     return book([both_ways(2, {})])
@@ -137,7 +162,7 @@ def line_of(book_bytes):
     return book_bytes.hex() or "-"
 
 
-NAMED = {f.__name__: f for f in (q, dear_q, two_companies, least, largest)}
+NAMED = {f.__name__: f for f in (q, dear_q, two_companies, two_ways, spring, least, largest)}
 
 
 def main():

@@ -6,13 +6,15 @@ use Rattle.outline.specs.Fares.{fareAt, inMap}
 use Rattle.outline.specs.Network.{entryOf, networkOf, sameStation, leads, joins, orElse, joinedBelow, linkBetween}
 use Rattle.outline.specs.Book.{wordAt, offsetOf, lengthOf, endBefore, bodyOf, words, tableOf, linkOf, ruleOf, faresOf, network}
 use Rattle.outline.specs.Judging.{headerCheck, companyCheck, listCheck, endCheck, contentsCheck, goodEntry, entryCheck, rowCheck, tableCheck, tablesCheck, goodLink, sameLink, repeated, linkCheck, goodCompany, goodMap, goodMaps, goodRule, ruleCheck, faresCheck, entryOffset, bookCheck}
-use Rattle.outline.specs.Routes.{linkAfter, routeOf, isSold, exists, isLink, reached, met, meets, repeats, goodNext, rideCheck, goodLength, routeCheck}
+use Rattle.outline.specs.Routes.{bytesOf, linkAfter, routeOf, isSold, exists, isLink, reached, met, meets, repeats, goodNext, rideCheck, goodLength, routeCheck}
 use Rattle.outline.specs.Matching.{yenOf, sumOf, sameCompanies, permits, permitted, unless, reasonOf, earns}
 use Rattle.outline.specs.Selections.{yen, total}
 use Rattle.outline.specs.Choosing.{orRule, bestRule, rather, withRun, orRun, bestFrom}
 use Rattle.outline.specs.Price.{runsOf, fareWith, fareOf, belongs, paidBy, placeAt, answerWith, answerOf, refusedAnswer, answerTo, priceOf}
-use Rattle.cases.specs.Table.{answered, outcomeOf, AllHold, table}
+use Rattle.outline.specs.Questions.{known, questionCheck}
+use Rattle.outline.specs.Listing.{listsOf, those, ofEach, rides, longer, routesOf, routesWithin, joinsThem, lexLe, noLater, firstOf, answerAmong, foundOf, askedOf}
+use Rattle.cases.specs.Table.{answered, bytesIn, outcomeOf, AllHold, table}
 
 pub all-hold : AllHold table
-unfolding AllHold answered outcomeOf both either choose within allBelow someBelow listOf demand _andThen_ firstBelow fareAt inMap entryOf networkOf sameStation leads joins orElse joinedBelow linkBetween wordAt offsetOf lengthOf endBefore bodyOf words tableOf linkOf ruleOf faresOf network headerCheck companyCheck listCheck endCheck contentsCheck goodEntry entryCheck rowCheck tableCheck tablesCheck goodLink sameLink repeated linkCheck goodCompany goodMap goodMaps goodRule ruleCheck faresCheck entryOffset bookCheck linkAfter routeOf isSold exists isLink reached met meets repeats goodNext rideCheck goodLength routeCheck yenOf sumOf sameCompanies permits permitted unless reasonOf earns yen total orRule bestRule rather withRun orRun bestFrom runsOf fareWith fareOf belongs paidBy placeAt answerWith answerOf refusedAnswer answerTo priceOf
-all-hold = (refl, (refl, (refl, tt)))
+unfolding AllHold answered bytesIn outcomeOf bytesOf known questionCheck listsOf those ofEach rides longer routesOf routesWithin joinsThem lexLe noLater firstOf answerAmong foundOf askedOf both either choose within allBelow someBelow listOf demand _andThen_ firstBelow fareAt inMap entryOf networkOf sameStation leads joins orElse joinedBelow linkBetween wordAt offsetOf lengthOf endBefore bodyOf words tableOf linkOf ruleOf faresOf network headerCheck companyCheck listCheck endCheck contentsCheck goodEntry entryCheck rowCheck tableCheck tablesCheck goodLink sameLink repeated linkCheck goodCompany goodMap goodMaps goodRule ruleCheck faresCheck entryOffset bookCheck linkAfter routeOf isSold exists isLink reached met meets repeats goodNext rideCheck goodLength routeCheck yenOf sumOf sameCompanies permits permitted unless reasonOf earns yen total orRule bestRule rather withRun orRun bestFrom runsOf fareWith fareOf belongs paidBy placeAt answerWith answerOf refusedAnswer answerTo priceOf
+all-hold = (refl, (refl, (refl, (refl, (refl, (refl, (refl, (refl, (refl, (refl, (refl, (refl, (refl, (refl, (refl, (refl, (refl, tt)))))))))))))))))

@@ -3,3 +3,4 @@ pub mod Lists
 pub mod Onward
 pub mod Walking
 pub mod Twin
+pub mod Asking

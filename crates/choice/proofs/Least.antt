@@ -137,13 +137,13 @@ module _ (earn : Earn) (rules n : ℕ) where
     front : (k y : ℕ) → Most (earn at m) rules k y → (t : List Run) → Apart earn rules n at t → Starts at m t → Counts earn (run-by k) t
     unfolding Apart Starts run-by total numbers LexLe
     front k y best [] a l = absurd l
-    front k y best (p ∷ t) a l = ⊎-elim more same (best .most (p .rule) (e .yen) (a .0 .known) (subst₃′ (e .is)))
+    front k y best (p ∷ t) a l = ⊎-elim more same (best .most (p .rule) (e .yen) (a .0 .known) (as-mine (e .is)))
       where
         e : Earned (earn (p .first) (p .rides) (p .rule))
         e = earned _ (a .0 .pays)
 
-        subst₃′ : earn (p .first) (p .rides) (p .rule) ≡ Yen (e .yen) → earn at m (p .rule) ≡ Yen (e .yen)
-        subst₃′ h = ap (λ (i : ℕ). earn i m (p .rule)) (l .0) ∙ ap (λ (i : ℕ). earn (p .first) i (p .rule)) (l .1) ∙ h
+        as-mine : earn (p .first) (p .rides) (p .rule) ≡ Yen (e .yen) → earn at m (p .rule) ≡ Yen (e .yen)
+        as-mine h = ap (λ (i : ℕ). earn i m (p .rule)) (l .0) ∙ ap (λ (i : ℕ). earn (p .first) i (p .rule)) (l .1) ∙ h
 
         mine : yen (earn at m k) ≡ y
         mine = yen-is _ y (best .earned)
@@ -237,8 +237,8 @@ module _ (earn : Earn) (rules n : ℕ) where
       (least-alone at _ (least (suc (suc (suc l))) (at + 1) (omega arith)))))
 
   -- the computed selection counts
-  pub twin-best : Best earn rules n (bestRuns earn rules n)
-  twin-best = let l = least n 0 (omega arith) in record { apart = l .apart; first = λ t a. l .first t a (after-two 0 t a) }
+  pub computed-best : Best earn rules n (bestRuns earn rules n)
+  computed-best = let l = least n 0 (omega arith) in record { apart = l .apart; first = λ t a. l .first t a (after-two 0 t a) }
 
   -- and no other does
   pub best-only : (s t : List Run) → Best earn rules n s → Best earn rules n t → s ≡ t

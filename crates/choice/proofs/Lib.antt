@@ -3,3 +3,4 @@ pub mod Rules
 pub mod Least
 pub mod Totals
 pub mod Priced
+pub mod Prices

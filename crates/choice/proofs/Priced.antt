@@ -9,14 +9,20 @@ use Rattle.outline.specs.declared.Leg.{Leg}
 use Rattle.outline.specs.declared.Run.{Run}
 use Rattle.outline.specs.declared.Answer.{Answer}
 use Rattle.outline.specs.Network.{Network}
-use Rattle.outline.specs.Matching.{sumOf}
+use Rattle.outline.specs.Matching.{runOf, sumOf}
 use Rattle.outline.specs.Selections.{Earn, Apart, total, Best}
 use Rattle.outline.specs.Price.{earnOn, runsOf, fareWith, fareOf, answerWith, Priced, answerOf}
-use Rattle.choice.proofs.Least.{twin-best, best-only}
+use Rattle.laws.proofs.Matching.{earns-less}
+use Rattle.choice.proofs.Totals.{Frugal}
+use Rattle.choice.proofs.Least.{computed-best, best-only}
+
+-- what a rule earns on a run is less than what the run costs
+pub frugal : (N : Network) (route : List Leg) → Frugal N route (earnOn N route)
+frugal N route first rides k y e = earns-less N (runOf route first rides) k y e
 
 pub runs-best : (N : Network) (route : List Leg) → Best (earnOn N route) (N .rules) (length route) (runsOf N route)
 unfolding runsOf
-runs-best N route = twin-best (earnOn N route) (N .rules) (length route)
+runs-best N route = computed-best (earnOn N route) (N .rules) (length route)
 
 -- the computed price is the route's price, and the only one
 pub priced-is : (N : Network) (route : List Leg) (r : Answer) → Priced N route r ↔ (r ≡ answerOf N route)

@@ -12,3 +12,5 @@ pub mod Given
 pub mod Entries
 pub mod Admissible
 pub mod GivenRoutes
+pub mod Matching
+pub mod Sheet

@@ -1,11 +1,12 @@
 -- Laws of reading a book: where a byte of a body stands in the book, what a table's entry is, and what the network's fields are.
 use Prim.Native.Nat.{ℕ, zero, suc, _+_, _*_, _-_, _≤_, _<_}
-use mathlib.Core.Path.{_≡_, refl, sym, ap, _∙_}
-use mathlib.Core.List.{List, [], _∷_}
+use mathlib.Core.Path.{_≡_, refl, sym, ap, ap₂, _∙_}
+use mathlib.Core.List.{List, [], _∷_, _++_}
 use native.Mathlib.Nat.{not-suc-le-zero, mul-le-mul, mul-le-mul-right, suc-mul}
+use native.Mathlib.Numerals.{add-one}
 use native.Mathlib.Omega.{arith}
 use lib.ListN.{length, getD, take, drop, length-take, length-drop}
-use lib.Seq.{getD-drop, getD-take}
+use lib.Seq.{getD-drop, getD-take, take-add, drop-drop, drop-cons}
 use Rattle.outline.specs.declared.Entry.the-variants.{NotSold, Sold}
 use Rattle.outline.specs.Tests.{part}
 use Rattle.outline.specs.Fares.{Table, Rule, fareAt, tableAt, noTable, noLink, noRule}
@@ -22,6 +23,15 @@ part-at s from n i h = getD-take n (drop from s) i 0 h ∙ getD-drop from s i 0
 
 pub part-length : (s : List ℕ) (from n : ℕ) → from + n ≤ length s → length (part s from n) ≡ n
 part-length s from n h = simp (length-take, length-drop) (omega arith)
+
+-- a part is its first numbers and those after them
+pub part-more : (s : List ℕ) (from m n : ℕ) → part s from (m + n) ≡ part s from m ++ part s (from + m) n
+part-more s from m n = take-add m n (drop from s) ∙ ap (λ (x : List ℕ). part s from m ++ take n x) (drop-drop m from s)
+
+pub part-one : (s : List ℕ) (from n : ℕ) → from < length s → part s from (1 + n) ≡ getD s from 0 ∷ part s (from + 1) n
+part-one s from n h =
+    let e : 1 + n ≡ suc n = omega arith in
+    ap₂ take e (drop-cons s from 0 h) ∙ ap (λ (m : ℕ). getD s from 0 ∷ part s m n) (sym (add-one from))
 
 pub body-at : (b : List ℕ) (e i : ℕ) → i < lengthOf b e → getD (bodyOf b e) i 0 ≡ getD b (offsetOf b e + i) 0
 unfolding bodyOf
@@ -71,14 +81,22 @@ cell n i j h k =
     let one : suc i * n ≡ i * n + n = suc-mul i n in
     omega arith
 
+pub fares-length : (body : List ℕ) → length body ≡ companyLength (stationCount body) → length (tableOf body .fares) ≡ stationCount body * stationCount body
+unfolding tableOf
+fares-length body l = length-words (drop 1 body) (stationCount body * stationCount body) (omega (arith, length-drop 1 body))
+
+-- entry i of a table, counted row by row
+pub entry-at : (body : List ℕ) (i : ℕ) → length body ≡ companyLength (stationCount body) → i < stationCount body * stationCount body
+    → getD (tableOf body .fares) i 0 ≡ wordAt body (1 + 2 * i)
+unfolding tableOf
+entry-at body i l h =
+    let w = getD-words (drop 1 body) i (omega (arith, length-drop 1 body)) in
+    w ∙ word-drop body 1 (2 * i)
+
 pub fare-at : (body : List ℕ) (i j : ℕ) → length body ≡ companyLength (stationCount body) → i < stationCount body → j < stationCount body
     → fareAt (tableOf body) i j ≡ wordAt body (entryPlace (stationCount body) i j)
 unfolding fareAt tableOf
-fare-at body i j l h k =
-    let n : ℕ = stationCount body in
-    let c : i * n + j < n * n = cell n i j h k in
-    let w = getD-words (drop 1 body) (i * n + j) (omega (arith, length-drop 1 body)) in
-    w ∙ word-drop body 1 (2 * (i * n + j))
+fare-at body i j l h k = entry-at body (i * stationCount body + j) l (cell (stationCount body) i j h k)
 
 -- ---- the network's fields
 
@@ -202,7 +220,7 @@ pub record RuleSized (r : Rule) : Type 0 where
   pub alighting : length (r .alighting) ≡ 5
   pub permitted : length (r .permitted) ≡ 16
 
-rule-of-sized : (body : List ℕ) (k : ℕ) → ruleLength * k + ruleLength ≤ length body → RuleSized (ruleOf body k)
+pub rule-of-sized : (body : List ℕ) (k : ℕ) → ruleLength * k + ruleLength ≤ length body → RuleSized (ruleOf body k)
 unfolding ruleOf
 rule-of-sized body k h = record {
   companies = part-length body (ruleLength * k + 1) 4 (omega arith);
@@ -233,3 +251,21 @@ stations-few b w c h =
 
 pub links-few : (b : List ℕ) → LaidOut b → network b .links ≤ 128
 links-few b w = rw (network-links b) (w .header .links)
+
+-- ---- a rule's bytes, one after the other
+
+pub rule-first : (body : List ℕ) (k : ℕ) → ruleLength * k + ruleLength ≤ length body
+    → part body (ruleLength * k) 5 ≡ ruleOf body k .rides ∷ ruleOf body k .companies
+unfolding ruleOf
+rule-first body k h = part-one body (ruleLength * k) 4 (omega arith)
+
+pub rule-maps : (body : List ℕ) (k : ℕ)
+    → part body (ruleLength * k + 7) 26 ≡ ruleOf body k .boarding ++ (ruleOf body k .alighting ++ ruleOf body k .permitted)
+unfolding ruleOf
+rule-maps body k =
+    let five : ruleLength * k + 7 + 5 ≡ ruleLength * k + 12 = omega arith in
+    let ten : ruleLength * k + 12 + 5 ≡ ruleLength * k + 17 = omega arith in
+    part-more body (ruleLength * k + 7) 5 21
+    ∙ ap (λ (a : ℕ). part body (ruleLength * k + 7) 5 ++ part body a 21) five
+    ∙ ap (λ (x : List ℕ). part body (ruleLength * k + 7) 5 ++ x) (part-more body (ruleLength * k + 12) 5 16)
+    ∙ ap (λ (a : ℕ). part body (ruleLength * k + 7) 5 ++ (part body (ruleLength * k + 12) 5 ++ part body a 16)) ten

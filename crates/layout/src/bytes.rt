@@ -11,7 +11,7 @@ pub fn wide(x: u8) -> usize
     x as usize
 }
 
-fn number(x: u8) -> u16
+pub fn number(x: u8) -> u16
     ensures { λ r. ⌜ (r ≡ x) × (r < 256) ⌝ }
 {
     x as u16

@@ -6,8 +6,9 @@ use bytes::word;
 use outline::Link;
 use outline::Station;
 ghost use mathlib.Core.Path.{_≡_};
+ghost use mathlib.Core.List.{_∷_, _++_};
 ghost use Prim.Native.Nat.{_+_, _*_, _≤_, _<_};
-ghost use lib.ListN.{length};
+ghost use lib.ListN.{length, getD};
 ghost use Rattle.outline.specs.Tests.{part};
 ghost use Rattle.outline.specs.Fares.{fareAt};
 ghost use Rattle.outline.specs.Book.{companyCount, linkCount, ruleCount, offsetOf, lengthOf, rulesEntry, endBefore, bodyOf, stationCount, companyLength, entryPlace, tableOf, linkLength, linkOf, ruleLength, ruleOf};
@@ -119,6 +120,29 @@ pub fn entry_place(n: u8, i: u8, j: u8) -> usize
     1 + 2 * (wide(i) * wide(n) + wide(j))
 }
 
+// How many stations a company has, from its body.
+pub fn stations(body: &[u8]) -> u8
+    requires { ⌜ 0 < length (now body) ⌝ }
+    ensures { λ r. ⌜ r ≡ stationCount (now (body .entry)) ⌝ }
+{
+    body[0]
+}
+
+// How many entries the table of n stations has.
+pub fn entries(n: u8) -> usize
+    ensures { λ r. ⌜ r ≡ n * n ⌝ }
+{
+    wide(n) * wide(n)
+}
+
+// Entry i of a company's body, counted row by row.
+pub fn nth_fare(body: &[u8], i: usize) -> u16
+    requires { ⌜ CompanySized (now body) × (i < stationCount (now body) * stationCount (now body)) ⌝ }
+    ensures { λ r. ⌜ r ≡ getD (tableOf (now (body .entry)) .fares) i 0 ⌝ }
+{
+    word(body, 1 + 2 * i)
+}
+
 // The number in row i, column j of a company's body.
 pub fn fare(body: &[u8], i: u8, j: u8) -> u16
     requires { ⌜ CompanySized (now body) × (i < stationCount (now body)) × (j < stationCount (now body)) ⌝ }
@@ -195,4 +219,20 @@ pub fn rule_permitted(body: &[u8], k: u8) -> &[u8]
     ensures { λ r. ⌜ now r ≡ ruleOf (now (body .entry)) k .permitted ⌝ }
 {
     rule_part(body, k, 17, 16)
+}
+
+// The bytes of rule k before its amount: m and the four companies.
+pub fn rule_first(body: &[u8], k: u8) -> &[u8]
+    requires { ⌜ ruleLength * k + ruleLength ≤ length (now body) ⌝ }
+    ensures { λ r. ⌜ now r ≡ ruleOf (now (body .entry)) k .rides ∷ ruleOf (now (body .entry)) k .companies ⌝ }
+{
+    rule_part(body, k, 0, 5)
+}
+
+// The bytes of rule k after its amount: the three maps.
+pub fn rule_maps(body: &[u8], k: u8) -> &[u8]
+    requires { ⌜ ruleLength * k + ruleLength ≤ length (now body) ⌝ }
+    ensures { λ r. ⌜ now r ≡ ruleOf (now (body .entry)) k .boarding ++ (ruleOf (now (body .entry)) k .alighting ++ ruleOf (now (body .entry)) k .permitted) ⌝ }
+{
+    rule_part(body, k, 7, 26)
 }

@@ -49,3 +49,9 @@ noRule = record { rides = 0; companies = []; amount = 0; boarding = []; alightin
 
 abbrev pub tableAt : Fares → ℕ → Table
 tableAt F c = getD (F .tables) c noTable
+
+abbrev pub linkAt : Fares → ℕ → Link
+linkAt F k = getD (F .links) k noLink
+
+abbrev pub ruleAt : Fares → ℕ → Rule
+ruleAt F k = getD (F .rules) k noRule

@@ -6,6 +6,11 @@ pub mod Network
 pub mod Book
 pub mod Valid
 pub mod Judging
+pub mod Sheet
+pub mod SheetValid
+pub mod SheetJudging
+pub mod Writing
+pub mod Lending
 pub mod Lexical
 pub mod Routes
 pub mod Matching

@@ -14,7 +14,7 @@ use Rattle.outline.specs.declared.Refusal.the-variants.{UnknownStation, 
 use Rattle.outline.specs.declared.Judged.{Judged}
 use Rattle.outline.specs.declared.Judged.the-variants.{Good, Refused}
 use Rattle.outline.specs.Numbers.{mostRides}
-use Rattle.outline.specs.Tests.{both, within}
+use Rattle.outline.specs.Tests.{both, within, Within}
 use Rattle.outline.specs.Refusals.{demand, _andThen_}
 use Rattle.outline.specs.Network.{Network, sameStation}
 use Rattle.outline.specs.Book.{network}
@@ -60,6 +60,17 @@ pub record NotFound (N : Network) (q : Question) (r : Answer) : Type 0 where
 
 abbrev pub Answered : Network → Question → Answer → Type 0
 Answered N q r = Found N q r ⊎ NotFound N q r
+
+-- a question that is answered: "station not in the book", "both stations the same" and "ride limit outside 1 to 4" are refused
+pub record Known (N : Network) (x : Station) : Type 0 where
+  pub company : x .company < N .companies
+  pub number : x .number < N .stations (x .company)
+
+pub record GoodQuestion (N : Network) (q : Question) : Type 0 where
+  pub from : Known N (q .from)
+  pub to : Known N (q .to)
+  pub different : q .from ≡ q .to → ⊥
+  pub limit : Within 1 (q .limit) mostRides
 
 -- 9: "station not in the book"
 unfoldable pub known : Network → Station → Bool

@@ -1,7 +1,7 @@
 -- Tests that hold or fail, and lists given by their items: the words that the other definitions are made of.
 use Prim.Native.Nat.{ℕ, zero, suc, _≤_}
 use mathlib.Core.Bool.{Bool, true, false}
-use mathlib.Core.List.{List, [], _∷_}
+use mathlib.Core.List.{List, [], _∷_, _++_}
 use lib.ListN.{take, drop}
 use lib.Dec.{leb}
 
@@ -44,3 +44,8 @@ listOf f (suc n) = f 0 ∷ listOf (λ k. f (suc k)) n
 -- n items from `from` on
 abbrev pub part : List ℕ → ℕ → ℕ → List ℕ
 part s from n = take n (drop from s)
+
+-- f 0, f 1, .., n of them, each after the one before, as one list
+unfoldable pub inOrder : (ℕ → List ℕ) → ℕ → List ℕ
+inOrder f zero = []
+inOrder f (suc n) = inOrder f n ++ f n

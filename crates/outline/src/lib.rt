@@ -97,6 +97,12 @@ pub enum Judged {
     Refused(Refusal),
 }
 
+// What a reader or a writer answers: how many numbers or bytes it wrote, or what is refused.
+pub enum Written {
+    Wrote(usize),
+    NotWritten(Refusal),
+}
+
 // A question: from which station, to which, and how many rides at most.
 pub struct Question {
     pub from: Station,

@@ -14,11 +14,10 @@ use Rattle.routes.specs.declared.Route.{Route}
 use Rattle.routes.specs.Held.{ridesOf}
 use Rattle.routes.proofs.Rides.{rides-length, rides-at}
 use Rattle.matching.specs.Runs.{runIn}
-use Rattle.matching.proofs.Frugal.{frugal}
 use Rattle.selection.specs.declared.Selection.{Selection}
 use Rattle.selection.specs.Chosen.{earnIn, Chosen}
 use Rattle.choice.proofs.Totals.{total-most}
-use Rattle.choice.proofs.Priced.{runs-best}
+use Rattle.choice.proofs.Priced.{runs-best, frugal}
 use Rattle.laws.proofs.Entries.{AllExist, sum-within}
 use Rattle.price.specs.Priceable.{Priceable}
 

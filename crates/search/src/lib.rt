@@ -27,18 +27,20 @@ fn near_end(l: Link, company: u8) -> Station
     ensures { λ r. ⌜ r ≡ nearEnd l company ⌝ }
 {
     let one = l.one;
+    let other = l.other;
     if one.company == company {
         return one;
     }
-    l.other
+    other
 }
 
 fn far_end(l: Link, company: u8) -> Station
     ensures { λ r. ⌜ r ≡ farEnd l company ⌝ }
 {
     let one = l.one;
+    let other = l.other;
     if one.company == company {
-        return l.other;
+        return other;
     }
     one
 }

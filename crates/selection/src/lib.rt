@@ -146,12 +146,13 @@ fn best_of_two(book: &[u8], route: Route, at: usize) -> Selection
     or_run(book, route, at, 2, none, none)
 }
 
-fn best_of_three(book: &[u8], route: Route, at: usize) -> Selection
+// Of three rides, where the selection for the last two is given.
+fn best_of_three(book: &[u8], route: Route, at: usize, alone: Selection) -> Selection
     requires { ⌜ OnBook (now book) route × (at + 3 ≤ route .count) ⌝ }
+    requires { ⌜ Chosen (earnIn (now book) route) 1 (bestFrom (earnIn (now book) route) (network (now book) .rules) 2 (at + 1)) alone ⌝ }
     ensures { λ r. ⌜ Chosen (earnIn (now (book .entry)) route) 2 (bestFrom (earnIn (now (book .entry)) route) (network (now (book .entry)) .rules) 3 at) r ⌝ }
 {
     let none = Selection::none();
-    let alone = best_of_two(book, route, at + 1);
     let three = or_run(book, route, at, 3, none, alone);
     or_run(book, route, at, 2, none, three)
 }
@@ -161,10 +162,10 @@ fn best_of_four(book: &[u8], route: Route) -> Selection
     ensures { λ r. ⌜ Chosen (earnIn (now (book .entry)) route) 2 (bestFrom (earnIn (now (book .entry)) route) (network (now (book .entry)) .rules) 4 0) r ⌝ }
 {
     let none = Selection::none();
-    let alone = best_of_three(book, route, 1);
+    let pair = best_of_two(book, route, 2);
+    let alone = best_of_three(book, route, 1, pair);
     let four = or_run(book, route, 0, 4, none, alone);
     let three = or_run(book, route, 0, 3, none, four);
-    let pair = best_of_two(book, route, 2);
     or_run(book, route, 0, 2, pair, three)
 }
 
@@ -181,7 +182,8 @@ pub fn best(book: &[u8], route: Route) -> Selection
         return best_of_two(book, route, 0);
     }
     if n == 3 {
-        return best_of_three(book, route, 0);
+        let pair = best_of_two(book, route, 1);
+        return best_of_three(book, route, 0, pair);
     }
     best_of_four(book, route)
 }

@@ -1,8 +1,11 @@
 // Bytes out of their hex digits.
+ghost use mathlib.Core.Path.{_≡_};
+ghost use Prim.Native.Nat.{_+_, _/_, _≤_};
+ghost use lib.ListN.{take};
 ghost use Rattle.text.specs.Digits.{ValueOf};
 
 // The value of a hex digit; 16 of any other byte.
-fn value(x: u8) -> u8
+pub fn value(x: u8) -> u8
     ensures { λ r. ⌜ ValueOf x r ⌝ }
 {
     if x < b'0' {
@@ -21,7 +24,9 @@ fn value(x: u8) -> u8
 }
 
 // Puts the next digit into its place, the higher digit of a byte first, and answers how many digits there are with it.
-pub fn put(bytes: &mut [u8], count: usize, x: u8) -> usize {
+pub fn put(bytes: &mut [u8], count: usize, x: u8) -> usize
+    ensures { λ r. ⌜ (count ≤ r) × (r ≤ count + 1) ⌝ }
+{
     let d = value(x);
     let at = count / 2;
     if 16 <= d {
@@ -39,7 +44,9 @@ pub fn put(bytes: &mut [u8], count: usize, x: u8) -> usize {
 }
 
 // The bytes that so many digits make.
-pub fn made(bytes: &[u8], count: usize) -> &[u8] {
+pub fn made(bytes: &[u8], count: usize) -> &[u8]
+    ensures { λ r. ⌜ now r ≡ take (count / 2) (now (bytes .entry)) ⌝ }
+{
     let n = count / 2;
     if n <= bytes.len() {
         return &bytes[0..n];

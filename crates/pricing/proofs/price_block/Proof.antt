@@ -1,8 +1,8 @@
 -- `pricing::price_block` meets its contract.
-use borrow.Author.Needs.{needs}
 use lib.ListN.{length}
 use Prim.Native.Nat.{_≤_, _-_}
 use mathlib.Core.Path.{_≡_}
+use borrow.Author.Needs.{needs}
 use Rattle.pricing.proofs.price_block.Statement.{statement}
 use Rattle.pricing.proofs.price_block.Tie as tie
 
@@ -39,6 +39,9 @@ loop-again c = search needs
 write-requires : tie.Need-write-requires Inv-loop μ-loop
 write-requires c κs = search needs
 
+written-requires : tie.Need-written-requires Inv-loop μ-loop
+written-requires c κs = search needs
+
 same-length : tie.Need-same-length Inv-loop μ-loop
 same-length c = search needs
 
@@ -63,6 +66,7 @@ price-block-spec =
     loop-less
     loop-again
     write-requires
+    written-requires
     same-length
     same-length-2
     returns)

@@ -7,7 +7,7 @@ use Rattle.search.proofs.far_end.Tie as tie
 
 returns : tie.Need-returns
 unfolding farEnd choose
-returns c = rw (eq-eqb _ _ (c .before .if1 .taken))
+returns c = rw (eq-eqb _ _ (c .if1 .taken))
 
 returns-2 : tie.Need-returns-2
 unfolding farEnd choose

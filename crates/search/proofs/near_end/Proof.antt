@@ -11,7 +11,7 @@ returns c = rw (eq-eqb _ _ (c .if1 .taken))
 
 returns-2 : tie.Need-returns-2
 unfolding nearEnd choose
-returns-2 c = rw (ne-eqb _ _ (c .before .if1 .left))
+returns-2 c = rw (ne-eqb _ _ (c .if1 .left))
 
 pub near-end-spec : {M : Type 1} → statement M
 near-end-spec = tie.close (tie.spec returns returns-2)

@@ -32,12 +32,15 @@ returns-2 : tie.Need-returns-2
 unfolding runsOf
 returns-2 c = let s = c .before .before .before .before in of-count _ _ 1 _ 2 _ (rides-length (s .args .route) (s .pre .held .sized) ∙ c .before .if2 .taken) (c .best-of-two .ensures)
 
+best-of-two-requires-2 : tie.Need-best-of-two-requires-2
+best-of-two-requires-2 c κs = search needs
+
 best-of-three-requires : tie.Need-best-of-three-requires
-best-of-three-requires c κs = search needs
+best-of-three-requires c κs = ((c .before .before .before .before .before .pre, omega arith), c .best-of-two2 .ensures)
 
 returns-3 : tie.Need-returns-3
 unfolding runsOf
-returns-3 c = let s = c .before .before .before .before .before in of-count _ _ 2 _ 3 _ (rides-length (s .args .route) (s .pre .held .sized) ∙ c .before .if3 .taken) (c .best-of-three .ensures)
+returns-3 c = let s = c .before .before .before .before .before .before in of-count _ _ 2 _ 3 _ (rides-length (s .args .route) (s .pre .held .sized) ∙ c .before .before .if3 .taken) (c .best-of-three .ensures)
 
 best-of-four-requires : tie.Need-best-of-four-requires
 best-of-four-requires c κs = search needs
@@ -57,6 +60,7 @@ best-spec =
     returns
     best-of-two-requires
     returns-2
+    best-of-two-requires-2
     best-of-three-requires
     returns-3
     best-of-four-requires

@@ -1,4 +1,4 @@
--- `routes::given::judge` meets its contract.
+use mathlib.Core.Bool.{true}
 use Rattle.routes.proofs.Turns.{count-is, turn-good, turn-bad, turn-more, read-length, read-bad, read-good}
 use Rattle.laws.proofs.Given.{whole-is, route-length, route-at}
 use Rattle.laws.proofs.Firsts.{first-more}
@@ -11,9 +11,9 @@ use lib.ListN.{length, take}
 use denote.Ref.{now}
 use borrow.Author.Tests.{not-true, not-false}
 use borrow.Author.Needs.{needs}
-use Prim.Native.Nat.{_-_, _≤_, _<_}
+use Prim.Native.Nat.{ℕ, _+_, _*_, _-_, _≤_, _<_}
 use native.Mathlib.Omega.{arith}
-use mathlib.Core.Path.{_≡_, refl, sym, _∙_}
+use mathlib.Core.Path.{_≡_, refl, sym, ap, _∙_}
 use Rattle.routes.proofs.given.judge.Statement.{statement}
 use Rattle.routes.proofs.given.judge.Tie as tie
 
@@ -74,7 +74,7 @@ loop-again c =
     let long = route-length (now (s .args .bytes)) in
     let inside : c .before .before .before .before .before .before .loop .i < length (routeOf (now (s .args .bytes))) = omega arith in
     let ride = c .before .before .before .before .ride .ensures ∙ sym (route-at (now (s .args .bytes)) _ (c .before .before .before .before .before .loop-test .taken)) in
-    let good = not-false _ (c .before .if2 .left) in (
+    let good : c .before .before .before .then .result .good ≡ true = not-false _ (c .before .if2 .left) in (
       omega arith,
       c .before .before .before .then .ensures .held good,
       turn-more _ _ _ _ (inv .1) (inv .2) _ _ inside ride (c .before .before .before .then .ensures) good,

@@ -1,0 +1,4 @@
+pub mod Pieces
+pub mod Sheets
+pub mod Books
+pub mod Trips

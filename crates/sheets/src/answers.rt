@@ -1,0 +1,28 @@
+// A reader's or a writer's answer as a line of text.
+use outline::Written;
+
+fn put_written(out: &mut [u8], at: usize, written: Written) -> usize {
+    match written {
+        Written::Wrote(n) => {
+            let number = text::lines::put_text(out, at, b"wrote ");
+            text::lines::put_number(out, number, n as u64)
+        }
+        Written::NotWritten(x) => text::lines::put_refused(out, at, x),
+    }
+}
+
+fn put_back(out: &mut [u8], at: usize, back: bool) -> usize {
+    if back {
+        return text::lines::put_text(out, at, b" back\n");
+    }
+    text::lines::put_text(out, at, b" lost\n")
+}
+
+// Puts the line of an answer, of a sum and of a round trip after the first n bytes of the buffer, and answers where it ends.
+pub fn put(out: &mut [u8], n: usize, written: Written, sum: u64, back: bool) -> usize {
+    let at = text::lines::room(out, n);
+    let answer = put_written(out, at, written);
+    let space = text::lines::put_text(out, answer, b" ");
+    let end = text::lines::put_number(out, space, sum);
+    put_back(out, end, back)
+}

@@ -1,0 +1,176 @@
+"""Write what the program `sheets` is run on in the gate, and what it must print.
+
+What it is for. `rt ci` runs `sheets` on crates/sheets/stdin and compares what
+it prints with crates/sheets/stdout. This script writes both files. No answer
+in them comes from the crates: those of the vectors are the vectors' own, and
+all others come from tools/judge.py and tools/sheet.py. Before anything is
+written, these two have to agree with every vector.
+
+How to run it. From the repository's root, with the path of the vectors:
+
+    python3 tools/sheet_cases.py ../shared/vectors
+
+It prints how many cases it wrote. The form of a case stands at the head of
+crates/sheets/src/main.rt.
+"""
+
+import os
+import sys
+import zlib
+
+import examples
+from examples import both_ways, rule
+from judge import answer, book_of as book_of_line, judge
+from sheet import book_of, judge_sheet, sheet_of
+
+ROOT = os.path.dirname(os.path.dirname(os.path.abspath(__file__)))
+
+# What stands in a lent list before anything is written.
+BYTE = 165
+
+# A list of more bytes is written with repeats, so that what git keeps stays small.
+LONG = 32
+
+
+def numbers_of(digits):
+    """The numbers of a sheet from its hex digits, four a number."""
+    digits = "" if digits == "-" else digits
+    return [int(digits[i : i + 4], 16) for i in range(0, len(digits), 4)]
+
+
+def big(numbers):
+    """A sheet's numbers as bytes, the high byte first, as a line of the input has them."""
+    return b"".join(x.to_bytes(2, "big") for x in numbers)
+
+
+def little(numbers):
+    """A sheet's numbers as bytes, the low byte first, as the sum takes them."""
+    return b"".join(x.to_bytes(2, "little") for x in numbers)
+
+
+def repeats(data):
+    """Hex digits, with `<D,L>` for bytes that came before."""
+    out, at, seen = [], 0, {}
+    while at < len(data):
+        key = data[at : at + 8]
+        before = seen.get(key)
+        long = 0
+        while before is not None and at + long < len(data) and data[before + long] == data[at + long]:
+            long += 1
+        if long < 16:
+            long = 1
+            out.append("%02x" % data[at])
+        else:
+            out.append("<%d,%d>" % (at - before, long))
+        for i in range(at, at + long):
+            seen[data[i : i + 8]] = i
+        at += long
+    return "".join(out)
+
+
+def digits_of(data):
+    return repeats(data) if len(data) > LONG else data.hex()
+
+
+def lines(kind, given, refusal, result, unit):
+    """The cases of one book or sheet: room that fits, is one short and is larger."""
+    need = len(result) // unit if result is not None else 40
+    for room in (need, need - 1, need + 9):
+        lent = bytes((BYTE,)) * (room * unit)
+        if refusal is None and room >= need:
+            said, after = "wrote %d" % need, result + lent[len(result) :]
+        else:
+            said, after = "refused %d %d" % (refusal or (13, 0)), lent
+        yield "%s%d:%s" % (kind, room, digits_of(given)), "%s %d %s" % (said, zlib.adler32(after), "lost" if refusal else "back")
+        if refusal:
+            return
+
+
+def of_book(book):
+    """The cases of reading a book."""
+    refusal = judge(book)
+    return lines("r", book, refusal, None if refusal else little(sheet_of(book)), 2)
+
+
+def of_sheet(numbers):
+    """The cases of writing a sheet."""
+    refusal = judge_sheet(numbers)
+    return lines("w", big(numbers), refusal, None if refusal else book_of(numbers), 1)
+
+
+def longest():
+    """A book of 52,860 bytes that repeats itself."""
+    table = [[0 if i == j else 9999 for j in range(40)] for i in range(40)]
+    links = [(k // 40, k % 40, 15, k % 40) for k in range(128)]
+    return examples.book([table] * 16, links, [rule([0, 15, 0, 15], 999, range(40), range(40), range(128))] * 32)
+
+
+def changed(numbers, at, new):
+    return numbers[:at] + [new] + numbers[at + 1 :]
+
+
+def of_limits():
+    """Sheets at each limit, each number of Q's sheet changed, and each way to be too long or too short."""
+    q = sheet_of(examples.q())
+    pair = both_ways(2, {(0, 1): 1})
+    for at in range(3):
+        for new in (0, 1, 2, 16, 17, 32, 33, 128, 129, 255, 256, 257, 65535):
+            yield changed(q, at, new)
+    for at in range(3, len(q)):
+        for new in (0, 1, 255, 256, 257, 40, 41, 9999, 10000, 65535):
+            yield changed(q, at, new)
+    for end in range(len(q)):
+        yield q[:end]
+    yield q + [0]
+    yield q + [0] * 32
+    yield changed(q, 3, 1)[:4]  # a bad n, and its fares missing
+    yield changed(changed(q, 4, 1), 3 + 10, 41)  # company 0's diagonal, and company 1's n
+    yield changed(changed(q, 4, 1), len(q) - 1, 256)  # an entry before a rule
+    yield changed(changed(q, 23, 9), len(q) - 1, 256)  # a link before a rule
+    for n in (2, 40):
+        yield sheet_of(examples.one_company(n))
+    yield sheet_of(examples.book([pair] * 16))
+    yield sheet_of(examples.book([pair, pair], [], [rule([0, 1], 1, [], [], [])] * 32))
+
+
+def vectors(folder, name):
+    with open(os.path.join(folder, name), encoding="ascii") as told:
+        for line in told:
+            yield line.rstrip("\n").split(" = ")
+
+
+def agree(folder):
+    """Every vector of books and sheets against judge.py and sheet.py."""
+    for digits, said in vectors(folder, "books.txt"):
+        assert answer(judge(book_of_line(digits))) == said, digits
+    for digits, said in vectors(folder, "sheets.txt"):
+        numbers = numbers_of(digits)
+        refusal = judge_sheet(numbers)
+        assert ("refused %d %d" % refusal if refusal else book_of(numbers).hex()) == said, digits
+        assert refusal or sheet_of(book_of(numbers)) == numbers, digits
+
+
+def main():
+    if len(sys.argv) != 2:
+        sys.exit(__doc__)
+    folder = sys.argv[1]
+    agree(folder)
+    assert len(sheet_of(examples.q())) == 99
+    assert len(longest()) == 52860 and len(sheet_of(longest())) == 27155
+    cases = {}
+    books = [book_of_line(digits) for digits, _ in vectors(folder, "books.txt")] + [b"", examples.q(), examples.two_companies(), longest()]
+    sheets = [numbers_of(digits) for digits, _ in vectors(folder, "sheets.txt")] + [sheet_of(examples.q()), sheet_of(longest())]
+    for book in books:
+        cases.update(of_book(book))
+    for numbers in sheets + list(of_limits()):
+        cases.update(of_sheet(numbers))
+    place = os.path.join(ROOT, "crates", "sheets")
+    with open(os.path.join(place, "stdin"), "w", encoding="ascii") as out:
+        out.writelines(case + "\n" for case in cases)
+    with open(os.path.join(place, "stdout"), "w", encoding="ascii") as out:
+        out.writelines(said + "\n" for said in cases.values())
+    print("%d cases" % len(cases))
+
+
+if __name__ == "__main__":
+    main()
