@@ -13,21 +13,43 @@ use Rattle.outline.specs.declared.Judged.the-variants.{Good, Refused}
 use Rattle.outline.specs.declared.Question.{Question}
 use Rattle.outline.specs.Numbers.{mostCompanies, mostStations}
 use Rattle.outline.specs.Refusals.{numberOf, placeOf, demand, _andThen_, firstBelow}
-use Rattle.outline.specs.Fares.{tableAt}
+use Rattle.outline.specs.Fares.{Fares, tableAt}
 use Rattle.outline.specs.Network.{Network, networkOf}
 use Rattle.outline.specs.Book.{network, faresOf, companyCount, offsetOf, lengthOf, endBefore, bodyOf, stationCount, companyLength, entryPlace}
 use Rattle.outline.specs.Valid.{LaidOut}
-use Rattle.outline.specs.Judging.{bookCheck, entryOffset}
+use Rattle.outline.specs.Judging.{entryCheck, rowCheck, tableCheck, tablesCheck, linkCheck, ruleCheck, faresCheck, bookCheck, entryOffset}
+use Rattle.outline.specs.Sheet.{companiesIn, linksIn, rulesIn, companyStart, stationsIn, faresIn}
+use Rattle.outline.specs.SheetValid.{Counts, CompanyNumbers, SheetLaidOut}
+use Rattle.outline.specs.SheetJudging.{countsCheck, numbersCheck, remainderCheck, entryIndex, sheetCheck}
 use Rattle.outline.specs.Routes.{goodLength, routeOf, rideCheck, routeCheck}
 use Rattle.outline.specs.Questions.{questionCheck}
 use Rattle.laws.proofs.Named.{Names, names-good, names-demand, names-then}
 use Rattle.laws.proofs.Given.{route-length, whole-is}
 use Rattle.laws.proofs.Order.{book-numbers, bad-contents, bad-stations, bad-entry, bad-link, bad-rule}
 use Rattle.laws.proofs.Reading.{cell, small-product, network-stations, network-links, network-rules, tables-count}
-use Rattle.gate.specs.Word.{mostPlace}
+use Rattle.laws.proofs.Sheet.{companies-in, links-in, rules-in, stations-in, counts-good, companies-good, laid-good}
+use Rattle.telling.specs.Word.{mostPlace}
 
 abbrev pub Small : Refusal → Type 0
 Small x = placeOf x < mostPlace
+
+-- what comes after a test is looked at only where the test holds
+names-where : (Q : Refusal → Type 0) (t : Bool) (x : Refusal) (next : Judged) → Q x → (t ≡ true → Names Q next) → Names Q (demand t x next)
+unfolding demand
+names-where Q true x next q r = names-demand Q true x next q (r refl)
+names-where Q false x next q r = names-demand Q false x Good q (names-good Q)
+
+-- what comes after a check is looked at only where it is good
+names-onward : (Q : Refusal → Type 0) (a next : Judged) → Names Q a → (a ≡ Good → Names Q next) → Names Q (a andThen next)
+unfolding _andThen_
+names-onward Q Good next p r = r refl
+names-onward Q (Refused x) next p r = p
+
+-- of so many checks the refusal is one's of these
+names-below : (Q : Refusal → Type 0) (f : ℕ → Judged) (n : ℕ) → ((k : ℕ) → k < n → Names Q (f k)) → Names Q (firstBelow f n)
+unfolding firstBelow
+names-below Q f zero p = names-good Q
+names-below Q f (suc n) p = names-then Q (firstBelow f n) (f n) (names-below Q f n (λ k h. p k (omega arith))) (p n (omega arith))
 
 -- ---- a book
 
@@ -81,18 +103,6 @@ book-places b (BadRide k) e = absurd (omega (arith, book-numbers b (BadRide k) e
 
 -- ---- a given route, and a question
 
--- what comes after a test is looked at only where the test holds
-names-where : (Q : Refusal → Type 0) (t : Bool) (x : Refusal) (next : Judged) → Q x → (t ≡ true → Names Q next) → Names Q (demand t x next)
-unfolding demand
-names-where Q true x next q r = names-demand Q true x next q (r refl)
-names-where Q false x next q r = names-demand Q false x Good q (names-good Q)
-
--- of so many checks the refusal is one's of these
-names-below : (Q : Refusal → Type 0) (f : ℕ → Judged) (n : ℕ) → ((k : ℕ) → k < n → Names Q (f k)) → Names Q (firstBelow f n)
-unfolding firstBelow
-names-below Q f zero p = names-good Q
-names-below Q f (suc n) p = names-then Q (firstBelow f n) (f n) (names-below Q f n (λ k h. p k (omega arith))) (p n (omega arith))
-
 few-rides : (bytes : List ℕ) → goodLength (length bytes) ≡ true → length (routeOf bytes) ≤ 4
 few-rides bytes h = omega (arith, route-length bytes, whole-is (length bytes) .0 h .few .to)
 
@@ -110,3 +120,67 @@ question-places N q =
     (names-demand Small _ (UnknownStation 1) _ (omega arith)
     (names-demand Small _ SameStation _ (omega arith)
     (names-demand Small _ BadLimit _ (omega arith) (names-good Small))))
+
+-- ---- a sheet
+
+-- where the numbers of a company begin: after the counts and the companies before it
+start-small : (s : List ℕ) (n : ℕ) → ((c : ℕ) → c < n → CompanyNumbers s c) → companyStart s n ≤ 3 + 1601 * n
+unfolding companyStart
+start-small s zero w = omega arith
+start-small s (suc n) w =
+    let before = start-small s n (λ c h. w c (omega arith)) in
+    let few = w n (omega arith) .stations .to in
+    let square = small-product 40 few few in
+    omega arith
+
+-- the places of what a sheet's entries, links and rules are refused for
+fares-places : (place : ℕ → ℕ → ℕ → ℕ) (F : Fares)
+    → ((c i j : ℕ) → c < length (F .tables) → i < tableAt F c .stations → j < tableAt F c .stations → place c i j < mostPlace)
+    → length (F .links) ≤ 128 → length (F .rules) ≤ 32 → Names Small (faresCheck place F)
+unfolding faresCheck tablesCheck tableCheck rowCheck entryCheck linkCheck ruleCheck networkOf
+fares-places place F entry links rules =
+    names-then Small _ _
+    (names-below Small (λ c. tableCheck (place c) (tableAt F c)) _
+    (λ c h. names-below Small (rowCheck (place c) (tableAt F c)) _
+    (λ i k. names-below Small (entryCheck (place c) (tableAt F c) i) _
+    (λ j l. names-demand Small _ (BadEntry (place c i j)) _ (entry c i j h k l) (names-good Small)))))
+    (names-then Small _ _
+    (names-below Small (linkCheck (networkOf F)) _
+    (λ k h. names-demand Small _ (BadLink k) _ (omega arith) (names-demand Small _ (BadLink k) _ (omega arith) (names-good Small))))
+    (names-below Small (ruleCheck (networkOf F)) _ (λ k h. names-demand Small _ (BadRule k) _ (omega arith) (names-good Small))))
+
+index-small : (s : List ℕ) → SheetLaidOut s → (c i j : ℕ) → c < length (faresIn s .tables) → i < tableAt (faresIn s) c .stations
+    → j < tableAt (faresIn s) c .stations → entryIndex s c i j < mostPlace
+unfolding entryIndex
+index-small s w c i j h row column =
+    let here : c < companiesIn s = omega (arith, companies-in s) in
+    let n : ℕ = stationsIn s c in
+    let same : tableAt (faresIn s) c .stations ≡ n = stations-in s c here in
+    let inside : i * n + j < n * n = cell n i j (rw same at row) (rw same at column) in
+    let few = small-product 40 (w .companies c here .stations .to) (w .companies c here .stations .to) in
+    omega (arith, start-small s c (λ d l. w .companies d (omega arith)), w .counts .companies .to)
+
+pub sheet-places : (s : List ℕ) → Names Small (sheetCheck s)
+unfolding sheetCheck countsCheck numbersCheck remainderCheck
+sheet-places s =
+    names-onward Small (countsCheck s) _ counts
+    (λ g. let known = counts-good s g in
+    names-onward Small (firstBelow (numbersCheck s) (companiesIn s)) _ (companies known)
+    (λ h. names-onward Small (remainderCheck s) _ (names-demand Small _ WrongLength _ (omega arith) (names-good Small))
+    (λ r. let laid = laid-good s known (companies-good s (companiesIn s) h) r in
+    fares-places (entryIndex s) (faresIn s) (index-small s laid) (omega (arith, links-in s, known .links)) (omega (arith, rules-in s, known .rules)))))
+  where
+    counts : Names Small (countsCheck s)
+    counts =
+        names-demand Small _ WrongLength _ (omega arith)
+        (names-demand Small _ OutsideLimits _ (omega arith)
+        (names-demand Small _ OutsideLimits _ (omega arith)
+        (names-demand Small _ OutsideLimits _ (omega arith) (names-good Small))))
+
+    companies : Counts s → Names Small (firstBelow (numbersCheck s) (companiesIn s))
+    companies known =
+        names-below Small (numbersCheck s) _
+        (λ c h. let few = known .companies .to in
+        names-demand Small _ WrongLength _ (omega arith)
+        (names-demand Small _ (BadStations c) _ (omega arith)
+        (names-demand Small _ WrongLength _ (omega arith) (names-good Small))))

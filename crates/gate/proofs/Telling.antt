@@ -24,9 +24,9 @@ use Rattle.outline.specs.Routes.{routeCheck, routeOf}
 use Rattle.outline.specs.Price.{answerWith, answerOf, refusedAnswer, answerTo, priceOf}
 use Rattle.outline.specs.Questions.{Answered, AnswerTo, Asked, questionCheck}
 use Rattle.laws.proofs.Named.{Names, names-good, names-then, same-refusal}
-use Rattle.gate.specs.declared.Written.the-variants.{Wrote, NotWritten}
-use Rattle.gate.specs.Lending.{refusalPlaceOf, answered}
-use Rattle.gate.specs.Word.{mostPlace}
+use Rattle.outline.specs.declared.Written.the-variants.{Wrote, NotWritten}
+use Rattle.outline.specs.Lending.{refusalPlaceOf, answered}
+use Rattle.telling.specs.Word.{mostPlace}
 use Rattle.gate.proofs.Places.{Small, book-places, route-places, question-places}
 
 pub record Tellable (a : Answer) : Type 0 where

@@ -7,9 +7,11 @@ use denote.Ref.{now}
 use Rattle.outline.specs.declared.Question.{Question}
 use Rattle.outline.specs.declared.Answer.{Answer}
 use Rattle.cheapest.proofs.Earlier.{one-answer}
-use Rattle.gate.specs.Answers.{Tells, TellsCheapest}
+use Rattle.telling.specs.Answers.{Tells, TellsCheapest}
 use Rattle.gate.proofs.fares_check.Reads as fares_check
 use Rattle.gate.proofs.fares_company.Reads as fares_company
+use Rattle.gate.proofs.fares_read.Reads as fares_read
+use Rattle.gate.proofs.fares_write.Reads as fares_write
 use Rattle.gate.proofs.fares_price.Reads as fares_price
 use Rattle.gate.proofs.fares_cheapest.Reads as fares_cheapest
 
@@ -18,6 +20,15 @@ check-one κs a r s e e′ p q = p ∙ sym q
 
 pub company-one : (κs : _) (a : _) (r s : ℕ) (e e′ : _) → fares_company.Post κs a r e → fares_company.Post κs a s e′ → r ≡ s
 company-one κs a r s e e′ p q = p ∙ sym q
+
+-- the same word, and the same numbers or bytes in the lent list
+pub read-one : (κs : _) (a : _) (r s : ℕ) (e e′ : _) → fares_read.Post κs a r e → fares_read.Post κs a s e′ →
+    (r ≡ s) × (now (e .1 .0) ≡ now (e′ .1 .0))
+read-one κs a r s e e′ p q = (p .0 ∙ sym (q .0), p .1 ∙ sym (q .1))
+
+pub write-one : (κs : _) (a : _) (r s : ℕ) (e e′ : _) → fares_write.Post κs a r e → fares_write.Post κs a s e′ →
+    (r ≡ s) × (now (e .1 .0) ≡ now (e′ .1 .0))
+write-one κs a r s e e′ p q = (p .0 ∙ sym (q .0), p .1 ∙ sym (q .1))
 
 -- ---- an answer is told in one way
 
@@ -30,7 +41,6 @@ cheapest-told b q lent r s after after′ p t =
     let same : t .answer ≡ p .answer = one-answer b q _ _ (t .asked) (p .asked) in
     tells-one (p .answer) lent r s after after′ (p .tells) (rw same at (t .tells))
 
--- the same word, and the same numbers in the lent list
 pub price-one : (κs : _) (a : _) (r s : ℕ) (e e′ : _) → fares_price.Post κs a r e → fares_price.Post κs a s e′ →
     (r ≡ s) × (now (e .1 .1 .0) ≡ now (e′ .1 .1 .0))
 price-one κs a r s e e′ p q = tells-one _ _ r s _ _ p q

@@ -1,22 +1,17 @@
 // The C face of the public operations: include/fares.h says what each returns. A slice is a pointer and a length there.
-pub mod answers;
-pub mod words;
-
 use layout::bytes::wide;
 use outline::Judged;
 use outline::Question;
 use outline::Station;
+use telling::answers;
+use telling::words;
 ghost use mathlib.Core.Path.{_≡_};
 ghost use lib.ListN.{length};
 ghost use Rattle.outline.specs.Judging.{bookCheck, companyBody, companyOffset};
 ghost use Rattle.outline.specs.Price.{priceOf};
-ghost use Rattle.gate.specs.Word.{judgedWord, partWord};
-ghost use Rattle.gate.specs.Answers.{Tells, TellsCheapest, question};
-
-pub enum Written {
-    Wrote(usize),
-    NotWritten(outline::Refusal),
-}
+ghost use Rattle.outline.specs.Lending.{readAnswer, readLeaves, writeAnswer, writeLeaves};
+ghost use Rattle.telling.specs.Word.{judgedWord, writtenWord, partWord};
+ghost use Rattle.telling.specs.Answers.{Tells, TellsCheapest, question};
 
 // Whether a book is good.
 #[no_mangle]
@@ -46,6 +41,24 @@ pub extern "C" fn fares_company(book: &[u8], company: u8) -> u64
         );
     }
     0
+}
+
+// A book read into a lent sheet.
+#[no_mangle]
+pub extern "C" fn fares_read(book: &[u8], sheet: &mut [u16]) -> u64
+    ensures { λ r. ⌜ r ≡ writtenWord (readAnswer (now (book .entry)) (now (sheet .entry))) ⌝ }
+    ensures { λ _. ⌜ now (sheet .exit) ≡ readLeaves (now (book .entry)) (now (sheet .entry)) ⌝ }
+{
+    words::written(sheet::read(book, sheet))
+}
+
+// A sheet's book written into a lent buffer.
+#[no_mangle]
+pub extern "C" fn fares_write(sheet: &[u16], book: &mut [u8]) -> u64
+    ensures { λ r. ⌜ r ≡ writtenWord (writeAnswer (now (sheet .entry)) (now (book .entry))) ⌝ }
+    ensures { λ _. ⌜ now (book .exit) ≡ writeLeaves (now (sheet .entry)) (now (book .entry)) ⌝ }
+{
+    words::written(sheet::write(sheet, book))
 }
 
 // The price of a given route.

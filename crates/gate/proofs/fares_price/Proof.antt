@@ -1,6 +1,6 @@
 -- `gate::fares_price` meets its contract.
 use mathlib.Core.Path.{ap, _∙_}
-use Rattle.gate.specs.Word.{writtenWord}
+use Rattle.telling.specs.Word.{writtenWord}
 use Rattle.gate.proofs.Telling.{price-tellable, written-small}
 use borrow.Author.Needs.{needs}
 use Rattle.gate.proofs.fares_price.Statement.{statement}

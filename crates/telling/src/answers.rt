@@ -1,16 +1,17 @@
 // An answer as the C face tells it: 18 numbers in a lent list.
-use crate::Written;
+use layout::bytes::number;
 use outline::Answer;
 use outline::Judged;
 use outline::Paid;
 use outline::Refusal;
 use outline::Ride;
+use outline::Written;
 ghost use mathlib.Core.Path.{_≡_};
 ghost use Prim.Native.Nat.{_≤_};
 ghost use lib.ListN.{length};
 ghost use Rattle.outline.specs.declared.Judged.the-variants.{Good};
-ghost use Rattle.gate.specs.Lending.{answered, leaves, filled};
-ghost use Rattle.gate.specs.Answers.{paidNumber, placeNumbers, placesNumbers, answerNumbers};
+ghost use Rattle.outline.specs.Lending.{answered, leaves, filled};
+ghost use Rattle.telling.specs.Answers.{paidNumber, placeNumbers, placesNumbers, answerNumbers};
 
 const NUMBERS: usize = 18;
 
@@ -19,12 +20,6 @@ const PLACES: usize = 4;
 const PLACE: usize = 4;
 
 const FIRST: usize = 2;
-
-fn number(x: u8) -> u16
-    ensures { λ r. ⌜ r ≡ x ⌝ }
-{
-    x as u16
-}
 
 fn paid_number(p: Paid) -> u16
     ensures { λ r. ⌜ r ≡ paidNumber p ⌝ }

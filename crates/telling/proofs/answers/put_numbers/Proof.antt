@@ -1,17 +1,17 @@
--- `gate::answers::put_numbers` meets its contract.
+-- `telling::answers::put_numbers` meets its contract.
 use Prim.Native.Nat.{ℕ}
 use mathlib.Core.Path.{refl, ap, _∙_}
 use mathlib.Core.List.{[], _∷_}
 use native.Mathlib.Omega.{arith}
 use denote.Ref.{now}
 use lib.ListN.{length, length-set, length-take, length-drop}
-use Rattle.gate.specs.Lending.{filled}
-use Rattle.gate.specs.Answers.{placesNumbers, answerNumbers}
-use Rattle.gate.proofs.Filled.{two-stores, length-filled, filled-lent}
-use Rattle.gate.proofs.Putting.{places-length, numbers-length}
+use Rattle.outline.specs.Lending.{filled}
+use Rattle.telling.specs.Answers.{placesNumbers, answerNumbers}
+use Rattle.filling.proofs.Filled.{two-stores, length-filled, filled-lent}
+use Rattle.telling.proofs.Putting.{places-length, numbers-length}
 use borrow.Author.Needs.{needs}
-use Rattle.gate.proofs.answers.put_numbers.Statement.{statement}
-use Rattle.gate.proofs.answers.put_numbers.Tie as tie
+use Rattle.telling.proofs.answers.put_numbers.Statement.{statement}
+use Rattle.telling.proofs.answers.put_numbers.Tie as tie
 
 slice-write-answer : tie.Need-slice-write-answer
 slice-write-answer c = search needs
@@ -39,7 +39,7 @@ unfolding answerNumbers
 returns c =
     let a = c .before .before .before .before .before .before .args .a in
     let d = now (c .before .before .before .before .before .before .args .answer) in
-    let first = two-stores _ _ d (omega arith) ∙ ap (λ (x : ℕ). filled (a .fare ∷ x ∷ []) d) (c .before .before .before .before .number .ensures) in
+    let first = two-stores _ _ d (omega arith) ∙ ap (λ (x : ℕ). filled (a .fare ∷ x ∷ []) d) (c .before .before .before .before .number .ensures .0) in
     filled-lent (a .fare ∷ a .rides ∷ []) (placesNumbers (a .places)) d _ _ 2 first refl (omega (arith, places-length (a .places))) (c .before .before .put-places .ensures)
 
 same-length : tie.Need-same-length

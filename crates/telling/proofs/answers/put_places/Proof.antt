@@ -1,16 +1,16 @@
--- `gate::answers::put_places` meets its contract.
+-- `telling::answers::put_places` meets its contract.
 use Prim.Native.Nat.{ℕ, _+_, _*_, _-_, _≤_, _<_}
 use mathlib.Core.Path.{_≡_, refl, sym, ap, _∙_}
 use native.Mathlib.Omega.{arith}
 use borrow.Author.Needs.{needs}
 use denote.Ref.{now}
 use lib.ListN.{length, take, drop, length-take, length-drop}
-use Rattle.gate.specs.Lending.{filled}
-use Rattle.gate.specs.Answers.{placesNumbers}
-use Rattle.gate.proofs.Filled.{length-filled, filled-lent}
-use Rattle.gate.proofs.Putting.{Put, put-none, put-more, put-all}
-use Rattle.gate.proofs.answers.put_places.Statement.{statement}
-use Rattle.gate.proofs.answers.put_places.Tie as tie
+use Rattle.outline.specs.Lending.{filled}
+use Rattle.telling.specs.Answers.{placesNumbers}
+use Rattle.filling.proofs.Filled.{length-filled, filled-lent}
+use Rattle.telling.proofs.Putting.{Put, put-none, put-more, put-all}
+use Rattle.telling.proofs.answers.put_places.Statement.{statement}
+use Rattle.telling.proofs.answers.put_places.Tie as tie
 
 abbrev Inv-loop : tie.InvT-loop
 Inv-loop answer₀ a i₀ answer i = Put (a .places) answer₀ answer i

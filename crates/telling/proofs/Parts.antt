@@ -2,7 +2,7 @@
 use Prim.Native.Nat.{ℕ, _/_, _%_, _<_}
 use mathlib.Core.Path.{_≡_}
 use native.Mathlib.Omega.{arith}
-use Rattle.gate.specs.Word.{word, mostPlace}
+use Rattle.telling.specs.Word.{word, mostPlace}
 
 pub record Parts (w count number place : ℕ) : Type 0 where
   pub count-is : w % 4294967296 ≡ count

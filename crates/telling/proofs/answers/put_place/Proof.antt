@@ -1,11 +1,11 @@
--- `gate::answers::put_place` meets its contract.
+-- `telling::answers::put_place` meets its contract.
 use native.Mathlib.Omega.{arith}
 use lib.ListN.{length-set}
-use Rattle.gate.specs.Answers.{placeNumbers}
-use Rattle.gate.proofs.Filled.{four-stores}
+use Rattle.telling.specs.Answers.{placeNumbers}
+use Rattle.filling.proofs.Filled.{four-stores}
 use borrow.Author.Needs.{needs}
-use Rattle.gate.proofs.answers.put_place.Statement.{statement}
-use Rattle.gate.proofs.answers.put_place.Tie as tie
+use Rattle.telling.proofs.answers.put_place.Statement.{statement}
+use Rattle.telling.proofs.answers.put_place.Tie as tie
 
 number-requires : tie.Need-number-requires
 number-requires c κs = search needs
@@ -36,7 +36,7 @@ same-length c = search needs
 
 returns : tie.Need-returns
 unfolding placeNumbers
-returns c = rw (c .before .before .before .number .ensures, c .before .before .number2 .ensures, c .before .number3 .ensures, c .paid-number .ensures) (four-stores _ _ _ _ _ (c .before .before .before .before .before .pre))
+returns c = rw (c .before .before .before .number .ensures .0, c .before .before .number2 .ensures .0, c .before .number3 .ensures .0, c .paid-number .ensures) (four-stores _ _ _ _ _ (c .before .before .before .before .before .pre))
 
 pub put-place-spec : {M : Type 1} → statement M
 put-place-spec =

@@ -1,12 +1,12 @@
 // The word that each function of the C face returns.
-use crate::Written;
 use book::refusal;
 use outline::Refusal;
+use outline::Written;
 ghost use mathlib.Core.Path.{_≡_};
 ghost use Prim.Native.Nat.{_<_};
 ghost use Rattle.outline.specs.Refusals.{numberOf, placeOf};
-ghost use Rattle.gate.specs.Lending.{refusalPlaceOf};
-ghost use Rattle.gate.specs.Word.{word, refusedWord, partWord, writtenWord, mostPlace};
+ghost use Rattle.outline.specs.Lending.{refusalPlaceOf};
+ghost use Rattle.telling.specs.Word.{word, refusedWord, partWord, writtenWord, mostPlace};
 
 const NUMBER: u64 = 4294967296;
 

@@ -8,9 +8,9 @@ use Rattle.outline.specs.declared.Ride.{Ride}
 use Rattle.outline.specs.declared.Question.{Question}
 use Rattle.outline.specs.declared.Answer.{Answer}
 use Rattle.outline.specs.Questions.{Asked}
-use Rattle.gate.specs.declared.Written.{Written}
-use Rattle.gate.specs.Lending.{answered, leaves}
-use Rattle.gate.specs.Word.{writtenWord}
+use Rattle.outline.specs.declared.Written.{Written}
+use Rattle.outline.specs.Lending.{answered, leaves}
+use Rattle.telling.specs.Word.{writtenWord}
 
 -- "how it was paid (the rule's number, or 255 for full)"
 abbrev pub paidNumber : Paid → ℕ

@@ -1,14 +1,14 @@
--- `gate::answers::put` meets its contract.
+-- `telling::answers::put` meets its contract.
 use mathlib.Core.Path.{sym, ap, _∙_}
 use native.Mathlib.Omega.{arith}
 use denote.Ref.{now}
-use Rattle.gate.specs.Answers.{answerNumbers}
-use Rattle.gate.specs.declared.Written.the-variants.{Wrote}
-use Rattle.gate.proofs.Answering.{answers-refused, answers-no-room, answers-wrote}
-use Rattle.gate.proofs.Putting.{numbers-length}
+use Rattle.telling.specs.Answers.{answerNumbers}
+use Rattle.outline.specs.declared.Written.the-variants.{Wrote}
+use Rattle.filling.proofs.Answers.{answers-refused, answers-no-room, answers-wrote}
+use Rattle.telling.proofs.Putting.{numbers-length}
 use borrow.Author.Needs.{needs}
-use Rattle.gate.proofs.answers.put.Statement.{statement}
-use Rattle.gate.proofs.answers.put.Tie as tie
+use Rattle.telling.proofs.answers.put.Statement.{statement}
+use Rattle.telling.proofs.answers.put.Tie as tie
 
 enum-known-judged : tie.Need-enum-known-judged
 enum-known-judged c = search needs

@@ -1,8 +1,8 @@
--- `gate::words::written` meets its contract.
+-- `telling::words::written` meets its contract.
 use native.Mathlib.Omega.{arith}
 use borrow.Author.Needs.{needs}
-use Rattle.gate.proofs.words.written.Statement.{statement}
-use Rattle.gate.proofs.words.written.Tie as tie
+use Rattle.telling.proofs.words.written.Statement.{statement}
+use Rattle.telling.proofs.words.written.Tie as tie
 
 enum-known-w : tie.Need-enum-known-w
 enum-known-w c = search needs

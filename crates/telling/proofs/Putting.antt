@@ -8,9 +8,9 @@ use lib.ListN.{length, getD, take, drop, length-append}
 use lib.Seq.{take-suc, take-all, length-take-le}
 use Rattle.outline.specs.declared.Ride.{Ride}
 use Rattle.outline.specs.declared.Answer.{Answer}
-use Rattle.gate.specs.Lending.{filled}
-use Rattle.gate.specs.Answers.{placeNumbers, placesNumbers, answerNumbers}
-use Rattle.gate.proofs.Filled.{length-filled, filled-lent}
+use Rattle.outline.specs.Lending.{filled}
+use Rattle.telling.specs.Answers.{placeNumbers, placesNumbers, answerNumbers}
+use Rattle.filling.proofs.Filled.{length-filled, filled-lent}
 
 pub places-length : (places : List Ride) → length (placesNumbers places) ≡ 4 * length places
 unfolding placesNumbers placeNumbers

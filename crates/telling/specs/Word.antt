@@ -4,8 +4,8 @@ use Rattle.outline.specs.declared.Refusal.{Refusal}
 use Rattle.outline.specs.declared.Judged.{Judged}
 use Rattle.outline.specs.declared.Judged.the-variants.{Good, Refused}
 use Rattle.outline.specs.Refusals.{numberOf, placeOf}
-use Rattle.gate.specs.declared.Written.{Written}
-use Rattle.gate.specs.Lending.{countOf, refusalOf, refusalPlaceOf}
+use Rattle.outline.specs.declared.Written.{Written}
+use Rattle.outline.specs.Lending.{countOf, refusalOf, refusalPlaceOf}
 
 -- "bits 0 to 31 how many were written, bits 32 to 39 the refusal's number (0: none), bits 40 to 63 its place"
 abbrev pub word : ℕ → ℕ → ℕ → ℕ
