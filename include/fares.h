@@ -62,6 +62,15 @@ uint64_t fares_check(const uint8_t *book, size_t book_len);
  * 0, an empty part, if the book is bad or has no such company. There is no refusal here: bits 32 to 39 are 0. */
 uint64_t fares_company(const uint8_t *book, size_t book_len, uint8_t company);
 
+/* Reads a book into a lent sheet, a list of 16-bit numbers: companies C, links L, rules R; for each company n and its n * n
+ * fares; for each link four numbers; for each rule 32. Says how many numbers were written.
+ * On a bad book: its refusal, 1 to 8. Then 13 if room is less than the sheet is long. */
+uint64_t fares_read(const uint8_t *book, size_t book_len, uint16_t *sheet, size_t room);
+
+/* Writes the book of a sheet into a lent buffer. Says how many bytes were written.
+ * On a bad sheet: its refusal, 1, 3, or 5 to 8. Then 13 if room is less than the book is long. */
+uint64_t fares_write(const uint16_t *sheet, size_t sheet_len, uint8_t *book, size_t room);
+
 /* Prices a given route, 3 bytes to a ride: company, boarding and alighting station. Writes an answer of 18 numbers.
  * On a bad book: its refusal, 1 to 8. Then 14 if the route is not admissible. Then 13 if room is less than 18. */
 uint64_t fares_price(const uint8_t *book, size_t book_len, const uint8_t *route, size_t route_len, uint16_t *answer,

@@ -7,3 +7,4 @@ pub mod damage;
 pub mod journeys;
 pub mod lent;
 pub mod random;
+pub mod run;
