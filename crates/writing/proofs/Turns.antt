@@ -45,6 +45,14 @@ parts s laid =
       fewRules = laid .counts .rules;
     }
 
+-- the first body begins so far on, the companies have so many bytes and the links so many, of a book in a list with so much room
+pub record Places (s : List ℕ) (first companies links room : ℕ) : Type 0 where
+  pub parts : Parts s
+  pub firstAt : first ≡ 4 + 4 * (companiesIn s + 2)
+  pub companiesLong : companies ≡ length (inOrder (bodyIn (faresIn s)) (companiesIn s))
+  pub linksLong : links ≡ 4 * linksIn s
+  pub fits : length (bookOf (faresIn s)) ≤ room
+
 -- ---- a turn of a loop over the companies
 
 pub record Turn (s : List ℕ) (c at : ℕ) : Type 0 where

@@ -1,11 +1,11 @@
--- `bodies::put_links` meets its contract.
+use mathlib.Core.List.{List}
+use lib.ListN.{length, length-take, length-drop}
 use Rattle.filling.proofs.InOrder.{order-length, order-turn}
 use native.Mathlib.Omega.{arith}
 use borrow.Author.Needs.{needs}
 use mathlib.Core.Path.{_≡_, refl, sym, ap, _∙_}
 use Prim.Native.Nat.{ℕ, _+_, _*_, _-_, _≤_, _<_}
 use denote.Ref.{now}
-use lib.ListN.{length, length-take, length-drop}
 use Rattle.outline.specs.Lending.{filled}
 use Rattle.outline.specs.Tests.{inOrder}
 use Rattle.outline.specs.Sheet.{linkIn}
@@ -20,6 +20,10 @@ Inv-loop sheet first n book₀ k₀ book k = (k ≤ n) × (length book ≡ lengt
 
 abbrev μ-loop : tie.MeasureT-loop
 μ-loop sheet first n book₀ k₀ book k = n - k
+
+-- what is known of a turn once its places are reckoned
+met : (c : tie.After-links-length Inv-loop μ-loop) → (c .links-length .result ≡ 4 * c .before .before .before .before .loop .k) × (c .before .before .links-numbers .result ≡ 4 * c .before .before .before .before .loop .k) × (c .before .before .before .before .loop .k < c .before .before .before .before .before .before .before .args .n)
+met c = (c .links-length .ensures ∙ ap (λ (x : ℕ). 4 * x) (c .before .byte .ensures), c .before .before .links-numbers .ensures .0, c .before .before .before .loop-test .taken)
 
 loop-holds : tie.Need-loop-holds Inv-loop μ-loop
 unfolding inOrder
@@ -38,31 +42,18 @@ links-length-requires : tie.Need-links-length-requires Inv-loop μ-loop
 links-length-requires c κs = search needs
 
 sub-put-link : tie.Need-sub-put-link Inv-loop μ-loop
-sub-put-link c =
-    let a = c .before .before .before .before .before .before .before in
-    let k = c .before .before .before .before .loop .k in
-    let room = order-length (λ (j : ℕ). linkBytes (linkIn (now (a .args .sheet)) (a .args .first + 4 * j))) 4 (a .args .n) (λ j l. link-bytes-length (linkIn (now (a .args .sheet)) (a .args .first + 4 * j))) in
-    let to : c .links-length .result ≡ 4 * k = c .links-length .ensures ∙ ap (λ (x : ℕ). 4 * x) (c .before .byte .ensures) in
-    omega (arith, c .before .before .before .loop-test .taken, c .before .before .before .before .loop .inv .1, a .pre .0 .2)
+sub-put-link c = let t = met c in omega (arith, c .before .before .before .before .loop .inv, c .before .before .before .before .before .before .before .pre .0)
 
 part-put-link-start : tie.Need-part-put-link-start Inv-loop μ-loop
-part-put-link-start c =
-    let a = c .before .before .before .before .before .before .before in
-    let k = c .before .before .before .before .loop .k in
-    let room = order-length (λ (j : ℕ). linkBytes (linkIn (now (a .args .sheet)) (a .args .first + 4 * j))) 4 (a .args .n) (λ j l. link-bytes-length (linkIn (now (a .args .sheet)) (a .args .first + 4 * j))) in
-    let to : c .links-length .result ≡ 4 * k = c .links-length .ensures ∙ ap (λ (x : ℕ). 4 * x) (c .before .byte .ensures) in
-    omega (arith, c .before .before .before .loop-test .taken, c .before .before .before .before .loop .inv .1, a .pre .0 .2)
+part-put-link-start c = let t = met c in omega (arith, c .before .before .before .before .loop .inv, c .before .before .before .before .before .before .before .pre .0)
 
 part-put-link-end : tie.Need-part-put-link-end Inv-loop μ-loop
 part-put-link-end c = search needs
 
 put-link-requires : tie.Need-put-link-requires Inv-loop μ-loop
 put-link-requires c κs =
-    let a = c .before .before .before .before .before .before .before .before in
-    let k = c .before .before .before .before .before .loop .k in
-    let room = order-length (λ (j : ℕ). linkBytes (linkIn (now (a .args .sheet)) (a .args .first + 4 * j))) 4 (a .args .n) (λ j l. link-bytes-length (linkIn (now (a .args .sheet)) (a .args .first + 4 * j))) in
-    let to : c .before .links-length .result ≡ 4 * k = c .before .links-length .ensures ∙ ap (λ (x : ℕ). 4 * x) (c .before .before .byte .ensures) in
-    ((omega (arith, c .before .before .before .links-numbers .ensures .0, c .before .before .before .before .loop-test .taken, a .pre .0 .1), simp (length-take, length-drop) (omega (arith, c .before .before .before .before .loop-test .taken, c .before .before .before .before .before .loop .inv .1, a .pre .0 .2))), rw (c .before .before .before .links-numbers .ensures .0) (a .pre .1 k (c .before .before .before .before .loop-test .taken)))
+    let t = met (c .before) in
+    ((omega (arith, c .before .before .before .before .before .before .before .before .pre .0), simp (length-take, length-drop) (omega (arith, c .before .before .before .before .before .loop .inv, c .before .before .before .before .before .before .before .before .pre .0))), rw (t .1) (c .before .before .before .before .before .before .before .before .pre .1 _ (t .2)))
 
 add-k : tie.Need-add-k Inv-loop μ-loop
 add-k c = search needs
@@ -72,15 +63,15 @@ loop-less c = search needs
 
 loop-again : tie.Need-loop-again Inv-loop μ-loop
 loop-again c =
+    let t = met (c .before .before .before .before) in
     let a = c .before .before .before .before .before .before .before .before .before .before .before in
     let k = c .before .before .before .before .before .before .before .before .loop .k in
-    let room = order-length (λ (j : ℕ). linkBytes (linkIn (now (a .args .sheet)) (a .args .first + 4 * j))) 4 (a .args .n) (λ j l. link-bytes-length (linkIn (now (a .args .sheet)) (a .args .first + 4 * j))) in
-    let to : c .before .before .before .before .links-length .result ≡ 4 * k = c .before .before .before .before .links-length .ensures ∙ ap (λ (x : ℕ). 4 * x) (c .before .before .before .before .before .byte .ensures) in
-    let h : k < a .args .n = c .before .before .before .before .before .before .before .loop-test .taken in
-    let some = order-length (λ (j : ℕ). linkBytes (linkIn (now (a .args .sheet)) (a .args .first + 4 * j))) 4 k (λ j l. link-bytes-length (linkIn (now (a .args .sheet)) (a .args .first + 4 * j))) in
-    let same = order-turn (λ (j : ℕ). linkBytes (linkIn (now (a .args .sheet)) (a .args .first + 4 * j))) (a .args .n) k (now (a .args .book)) _ _ _ h (omega (arith, a .pre .0 .2)) (c .before .before .before .before .before .before .before .before .loop .inv .2) (to ∙ sym some) (rw (c .before .before .before .before .before .before .links-numbers .ensures .0) at (c .before .before .put-link .ensures)) in
-    let more = order-length (λ (j : ℕ). linkBytes (linkIn (now (a .args .sheet)) (a .args .first + 4 * j))) 4 (k + 1) (λ j l. link-bytes-length (linkIn (now (a .args .sheet)) (a .args .first + 4 * j))) in
-    (search needs, ap length same ∙ length-filled _ (now (a .args .book)) (omega (arith, a .pre .0 .2)), same)
+    let list : ℕ → List ℕ = λ j. linkBytes (linkIn (now (a .args .sheet)) (a .args .first + 4 * j)) in
+    let long : (n : ℕ) → n ≤ a .args .n → length (inOrder list n) ≡ 4 * n = λ n h. order-length list 4 n (λ j l. link-bytes-length (linkIn (now (a .args .sheet)) (a .args .first + 4 * j))) in
+    let room = long (a .args .n) (omega arith) in
+    let more = long (k + 1) (omega (arith, t .2)) in
+    let same = order-turn list (a .args .n) k (now (a .args .book)) _ _ _ (t .2) (omega (arith, a .pre .0)) (c .before .before .before .before .before .before .before .before .loop .inv .2) (t .0 ∙ sym (long k (omega (arith, t .2)))) (rw (t .1) at (c .before .before .put-link .ensures)) in
+    (search needs, ap length same ∙ length-filled _ (now (a .args .book)) (omega (arith, a .pre .0)), same)
 
 same-length : tie.Need-same-length Inv-loop μ-loop
 same-length c = c .before .loop .inv .1

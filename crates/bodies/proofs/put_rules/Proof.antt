@@ -1,11 +1,11 @@
--- `bodies::put_rules` meets its contract.
+use mathlib.Core.List.{List}
+use lib.ListN.{length, length-take, length-drop}
 use Rattle.filling.proofs.InOrder.{order-length, order-turn}
 use native.Mathlib.Omega.{arith}
 use borrow.Author.Needs.{needs}
 use mathlib.Core.Path.{_≡_, refl, sym, ap, _∙_}
 use Prim.Native.Nat.{ℕ, _+_, _*_, _-_, _≤_, _<_}
 use denote.Ref.{now}
-use lib.ListN.{length, length-take, length-drop}
 use Rattle.outline.specs.Lending.{filled}
 use Rattle.outline.specs.Tests.{inOrder}
 use Rattle.outline.specs.Sheet.{ruleIn}
@@ -21,6 +21,10 @@ Inv-loop sheet first n book₀ k₀ book k = (k ≤ n) × (length book ≡ lengt
 
 abbrev μ-loop : tie.MeasureT-loop
 μ-loop sheet first n book₀ k₀ book k = n - k
+
+-- what is known of a turn once its places are reckoned
+met : (c : tie.After-rules-length Inv-loop μ-loop) → (c .rules-length .result ≡ 33 * c .before .before .before .before .loop .k) × (c .before .before .rules-numbers .result ≡ 32 * c .before .before .before .before .loop .k) × (c .before .before .before .before .loop .k < c .before .before .before .before .before .before .before .args .n)
+met c = (c .rules-length .ensures ∙ ap (λ (x : ℕ). 33 * x) (c .before .byte .ensures), c .before .before .rules-numbers .ensures .0, c .before .before .before .loop-test .taken)
 
 loop-holds : tie.Need-loop-holds Inv-loop μ-loop
 unfolding inOrder
@@ -39,31 +43,18 @@ rules-length-requires : tie.Need-rules-length-requires Inv-loop μ-loop
 rules-length-requires c κs = search needs
 
 sub-put-rule : tie.Need-sub-put-rule Inv-loop μ-loop
-sub-put-rule c =
-    let a = c .before .before .before .before .before .before .before in
-    let k = c .before .before .before .before .loop .k in
-    let room = order-length (λ (j : ℕ). ruleBytes (ruleIn (now (a .args .sheet)) (a .args .first + 32 * j))) 33 (a .args .n) (λ j l. rule-bytes-length (ruleIn (now (a .args .sheet)) (a .args .first + 32 * j)) (rule-sized-in (now (a .args .sheet)) (a .args .first + 32 * j) (omega (arith, a .pre .0 .1)))) in
-    let to : c .rules-length .result ≡ 33 * k = c .rules-length .ensures ∙ ap (λ (x : ℕ). 33 * x) (c .before .byte .ensures) in
-    omega (arith, c .before .before .before .loop-test .taken, c .before .before .before .before .loop .inv .1, a .pre .0 .2)
+sub-put-rule c = let t = met c in omega (arith, c .before .before .before .before .loop .inv, c .before .before .before .before .before .before .before .pre .0)
 
 part-put-rule-start : tie.Need-part-put-rule-start Inv-loop μ-loop
-part-put-rule-start c =
-    let a = c .before .before .before .before .before .before .before in
-    let k = c .before .before .before .before .loop .k in
-    let room = order-length (λ (j : ℕ). ruleBytes (ruleIn (now (a .args .sheet)) (a .args .first + 32 * j))) 33 (a .args .n) (λ j l. rule-bytes-length (ruleIn (now (a .args .sheet)) (a .args .first + 32 * j)) (rule-sized-in (now (a .args .sheet)) (a .args .first + 32 * j) (omega (arith, a .pre .0 .1)))) in
-    let to : c .rules-length .result ≡ 33 * k = c .rules-length .ensures ∙ ap (λ (x : ℕ). 33 * x) (c .before .byte .ensures) in
-    omega (arith, c .before .before .before .loop-test .taken, c .before .before .before .before .loop .inv .1, a .pre .0 .2)
+part-put-rule-start c = let t = met c in omega (arith, c .before .before .before .before .loop .inv, c .before .before .before .before .before .before .before .pre .0)
 
 part-put-rule-end : tie.Need-part-put-rule-end Inv-loop μ-loop
 part-put-rule-end c = search needs
 
 put-rule-requires : tie.Need-put-rule-requires Inv-loop μ-loop
 put-rule-requires c κs =
-    let a = c .before .before .before .before .before .before .before .before in
-    let k = c .before .before .before .before .before .loop .k in
-    let room = order-length (λ (j : ℕ). ruleBytes (ruleIn (now (a .args .sheet)) (a .args .first + 32 * j))) 33 (a .args .n) (λ j l. rule-bytes-length (ruleIn (now (a .args .sheet)) (a .args .first + 32 * j)) (rule-sized-in (now (a .args .sheet)) (a .args .first + 32 * j) (omega (arith, a .pre .0 .1)))) in
-    let to : c .before .rules-length .result ≡ 33 * k = c .before .rules-length .ensures ∙ ap (λ (x : ℕ). 33 * x) (c .before .before .byte .ensures) in
-    ((omega (arith, c .before .before .before .rules-numbers .ensures .0, c .before .before .before .before .loop-test .taken, a .pre .0 .1), simp (length-take, length-drop) (omega (arith, c .before .before .before .before .loop-test .taken, c .before .before .before .before .before .loop .inv .1, a .pre .0 .2))), rw (c .before .before .before .rules-numbers .ensures .0) (a .pre .1 k (c .before .before .before .before .loop-test .taken)))
+    let t = met (c .before) in
+    ((omega (arith, c .before .before .before .before .before .before .before .before .pre .0), simp (length-take, length-drop) (omega (arith, c .before .before .before .before .before .loop .inv, c .before .before .before .before .before .before .before .before .pre .0))), rw (t .1) (c .before .before .before .before .before .before .before .before .pre .1 _ (t .2)))
 
 add-k : tie.Need-add-k Inv-loop μ-loop
 add-k c = search needs
@@ -73,15 +64,15 @@ loop-less c = search needs
 
 loop-again : tie.Need-loop-again Inv-loop μ-loop
 loop-again c =
+    let t = met (c .before .before .before .before) in
     let a = c .before .before .before .before .before .before .before .before .before .before .before in
     let k = c .before .before .before .before .before .before .before .before .loop .k in
-    let room = order-length (λ (j : ℕ). ruleBytes (ruleIn (now (a .args .sheet)) (a .args .first + 32 * j))) 33 (a .args .n) (λ j l. rule-bytes-length (ruleIn (now (a .args .sheet)) (a .args .first + 32 * j)) (rule-sized-in (now (a .args .sheet)) (a .args .first + 32 * j) (omega (arith, a .pre .0 .1)))) in
-    let to : c .before .before .before .before .rules-length .result ≡ 33 * k = c .before .before .before .before .rules-length .ensures ∙ ap (λ (x : ℕ). 33 * x) (c .before .before .before .before .before .byte .ensures) in
-    let h : k < a .args .n = c .before .before .before .before .before .before .before .loop-test .taken in
-    let some = order-length (λ (j : ℕ). ruleBytes (ruleIn (now (a .args .sheet)) (a .args .first + 32 * j))) 33 k (λ j l. rule-bytes-length (ruleIn (now (a .args .sheet)) (a .args .first + 32 * j)) (rule-sized-in (now (a .args .sheet)) (a .args .first + 32 * j) (omega (arith, a .pre .0 .1)))) in
-    let same = order-turn (λ (j : ℕ). ruleBytes (ruleIn (now (a .args .sheet)) (a .args .first + 32 * j))) (a .args .n) k (now (a .args .book)) _ _ _ h (omega (arith, a .pre .0 .2)) (c .before .before .before .before .before .before .before .before .loop .inv .2) (to ∙ sym some) (rw (c .before .before .before .before .before .before .rules-numbers .ensures .0) at (c .before .before .put-rule .ensures)) in
-    let more = order-length (λ (j : ℕ). ruleBytes (ruleIn (now (a .args .sheet)) (a .args .first + 32 * j))) 33 (k + 1) (λ j l. rule-bytes-length (ruleIn (now (a .args .sheet)) (a .args .first + 32 * j)) (rule-sized-in (now (a .args .sheet)) (a .args .first + 32 * j) (omega (arith, a .pre .0 .1)))) in
-    (search needs, ap length same ∙ length-filled _ (now (a .args .book)) (omega (arith, a .pre .0 .2)), same)
+    let list : ℕ → List ℕ = λ j. ruleBytes (ruleIn (now (a .args .sheet)) (a .args .first + 32 * j)) in
+    let long : (n : ℕ) → n ≤ a .args .n → length (inOrder list n) ≡ 33 * n = λ n h. order-length list 33 n (λ j l. rule-bytes-length (ruleIn (now (a .args .sheet)) (a .args .first + 32 * j)) (rule-sized-in (now (a .args .sheet)) (a .args .first + 32 * j) (omega (arith, a .pre .0 .1)))) in
+    let room = long (a .args .n) (omega arith) in
+    let more = long (k + 1) (omega (arith, t .2)) in
+    let same = order-turn list (a .args .n) k (now (a .args .book)) _ _ _ (t .2) (omega (arith, a .pre .0)) (c .before .before .before .before .before .before .before .before .loop .inv .2) (t .0 ∙ sym (long k (omega (arith, t .2)))) (rw (t .1) at (c .before .before .put-rule .ensures)) in
+    (search needs, ap length same ∙ length-filled _ (now (a .args .book)) (omega (arith, a .pre .0)), same)
 
 same-length : tie.Need-same-length Inv-loop μ-loop
 same-length c = c .before .loop .inv .1

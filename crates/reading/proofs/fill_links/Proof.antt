@@ -1,10 +1,9 @@
--- `reading::fill_links` meets its contract.
+use lib.ListN.{length, length-take, length-drop}
 use native.Mathlib.Omega.{arith}
 use borrow.Author.Needs.{needs}
 use mathlib.Core.Path.{_≡_, refl, sym, ap, _∙_}
 use Prim.Native.Nat.{ℕ, _+_, _*_, _-_, _≤_, _<_}
 use denote.Ref.{now}
-use lib.ListN.{length, length-take, length-drop}
 use Rattle.outline.specs.Lending.{filled}
 use Rattle.outline.specs.Tests.{inOrder}
 use Rattle.outline.specs.Fares.{linkAt}
@@ -24,6 +23,15 @@ Inv-loop book sheet₀ n k₀ sheet k = (n ≡ linkCount book) × (k ≤ n) × (
 abbrev μ-loop : tie.MeasureT-loop
 μ-loop book sheet₀ n k₀ sheet k = n - k
 
+-- what is known of a turn once its place is reckoned
+met : (c : tie.After-links-numbers Inv-loop μ-loop)
+    → (c .links-numbers .result ≡ 4 * c .before .before .before .loop .k) × (c .before .before .before .loop .k < length (faresOf (now (c .before .before .before .before .before .before .before .args .book)) .links)) × (length (linksSheet (faresOf (now (c .before .before .before .before .before .before .before .args .book)))) ≡ 4 * length (faresOf (now (c .before .before .before .before .before .before .before .args .book)) .links))
+met c = (
+  c .links-numbers .ensures .0 ∙ ap (λ (n : ℕ). 4 * n) (c .before .number .ensures .0),
+  omega (arith, links-of (now (c .before .before .before .before .before .before .before .args .book)), c .before .before .before .loop .inv .0, c .before .before .loop-test .taken),
+  links-sheet-length _ (book-whole _ (c .before .before .before .before .before .before .before .pre .0)),
+)
+
 links-requires : tie.Need-links-requires Inv-loop μ-loop
 links-requires c κs = search needs
 
@@ -41,55 +49,19 @@ link-requires : tie.Need-link-requires Inv-loop μ-loop
 link-requires c κs = (c .before .before .before .before .before .before .before .pre .0, rw (network-links (now (c .before .before .before .before .before .before .before .args .book))) (omega (arith, c .before .before .before .loop .inv .0, c .before .before .loop-test .taken)))
 
 mul-put-link : tie.Need-mul-put-link Inv-loop μ-loop
-mul-put-link c =
-    let a = c .before .before .before .before .before .before .before .before in
-    let b = now (a .args .book) in
-    let k = c .before .before .before .before .loop .k in
-    let h : k < linkCount b = omega (arith, c .before .before .before .before .loop .inv .0, c .before .before .before .loop-test .taken) in
-    let whole = book-whole b (a .pre .0) in
-    let at : c .before .links-numbers .result ≡ 4 * k = c .before .links-numbers .ensures .0 ∙ ap (λ (n : ℕ). 4 * n) (c .before .before .number .ensures .0) in
-    let all = links-sheet-length (faresOf b) whole in
-    let many = links-of b in
-    omega arith
+mul-put-link c = let t = met (c .before) in omega (arith, c .before .before .before .before .before .before .before .before .pre .1, c .before .before .before .before .loop .inv)
 
 sub-put-link : tie.Need-sub-put-link Inv-loop μ-loop
-sub-put-link c =
-    let a = c .before .before .before .before .before .before .before .before in
-    let b = now (a .args .book) in
-    let k = c .before .before .before .before .loop .k in
-    let h : k < linkCount b = omega (arith, c .before .before .before .before .loop .inv .0, c .before .before .before .loop-test .taken) in
-    let whole = book-whole b (a .pre .0) in
-    let at : c .before .links-numbers .result ≡ 4 * k = c .before .links-numbers .ensures .0 ∙ ap (λ (n : ℕ). 4 * n) (c .before .before .number .ensures .0) in
-    let all = links-sheet-length (faresOf b) whole in
-    let many = links-of b in
-    omega (arith, c .before .before .before .before .loop .inv .2, a .pre .1)
+sub-put-link c = let t = met (c .before) in omega (arith, c .before .before .before .before .loop .inv, c .before .before .before .before .before .before .before .before .pre .1)
 
 part-put-link-start : tie.Need-part-put-link-start Inv-loop μ-loop
-part-put-link-start c =
-    let a = c .before .before .before .before .before .before .before .before in
-    let b = now (a .args .book) in
-    let k = c .before .before .before .before .loop .k in
-    let h : k < linkCount b = omega (arith, c .before .before .before .before .loop .inv .0, c .before .before .before .loop-test .taken) in
-    let whole = book-whole b (a .pre .0) in
-    let at : c .before .links-numbers .result ≡ 4 * k = c .before .links-numbers .ensures .0 ∙ ap (λ (n : ℕ). 4 * n) (c .before .before .number .ensures .0) in
-    let all = links-sheet-length (faresOf b) whole in
-    let many = links-of b in
-    omega (arith, c .before .before .before .before .loop .inv .2, a .pre .1)
+part-put-link-start c = let t = met (c .before) in omega (arith, c .before .before .before .before .loop .inv, c .before .before .before .before .before .before .before .before .pre .1)
 
 part-put-link-end : tie.Need-part-put-link-end Inv-loop μ-loop
 part-put-link-end c = search needs
 
 put-link-requires : tie.Need-put-link-requires Inv-loop μ-loop
-put-link-requires c κs =
-    let a = c .before .before .before .before .before .before .before .before .before in
-    let b = now (a .args .book) in
-    let k = c .before .before .before .before .before .loop .k in
-    let h : k < linkCount b = omega (arith, c .before .before .before .before .before .loop .inv .0, c .before .before .before .before .loop-test .taken) in
-    let whole = book-whole b (a .pre .0) in
-    let at : c .before .before .links-numbers .result ≡ 4 * k = c .before .before .links-numbers .ensures .0 ∙ ap (λ (n : ℕ). 4 * n) (c .before .before .before .number .ensures .0) in
-    let all = links-sheet-length (faresOf b) whole in
-    let many = links-of b in
-    simp (length-take, length-drop) (omega (arith, c .before .before .before .before .before .loop .inv .2, a .pre .1))
+put-link-requires c κs = let t = met (c .before .before) in simp (length-take, length-drop) (omega (arith, c .before .before .before .before .before .loop .inv, c .before .before .before .before .before .before .before .before .before .pre .1))
 
 add-k : tie.Need-add-k Inv-loop μ-loop
 add-k c = search needs
@@ -100,17 +72,13 @@ loop-less c = search needs
 loop-again : tie.Need-loop-again Inv-loop μ-loop
 unfolding linksSheet
 loop-again c =
+    let t = met (c .before .before .before .before .before) in
     let a = c .before .before .before .before .before .before .before .before .before .before .before .before in
     let b = now (a .args .book) in
     let k = c .before .before .before .before .before .before .before .before .loop .k in
-    let h : k < linkCount b = omega (arith, c .before .before .before .before .before .before .before .before .loop .inv .0, c .before .before .before .before .before .before .before .loop-test .taken) in
-    let whole = book-whole b (a .pre .0) in
-    let at : c .before .before .before .before .before .links-numbers .result ≡ 4 * k = c .before .before .before .before .before .links-numbers .ensures .0 ∙ ap (λ (n : ℕ). 4 * n) (c .before .before .before .before .before .before .number .ensures .0) in
-    let all = links-sheet-length (faresOf b) whole in
-    let many = links-of b in
     let some = order-length (λ (j : ℕ). linkSheet (linkAt (faresOf b) j)) 4 k (λ j l. link-sheet-length (linkAt (faresOf b) j)) in
     let more = order-length (λ (j : ℕ). linkSheet (linkAt (faresOf b) j)) 4 (k + 1) (λ j l. link-sheet-length (linkAt (faresOf b) j)) in
-    let same = order-turn (λ (j : ℕ). linkSheet (linkAt (faresOf b) j)) (length (faresOf b .links)) k (now (a .args .sheet)) _ _ _ (omega arith) (a .pre .1) (c .before .before .before .before .before .before .before .before .loop .inv .3) (at ∙ sym some) (rw (c .before .before .before .before .link .ensures, link-of-network b k) at (c .before .before .put-link .ensures)) in
+    let same = order-turn (λ (j : ℕ). linkSheet (linkAt (faresOf b) j)) (length (faresOf b .links)) k (now (a .args .sheet)) _ _ _ (t .1) (a .pre .1) (c .before .before .before .before .before .before .before .before .loop .inv .3) (t .0 ∙ sym some) (rw (c .before .before .before .before .link .ensures, link-of-network b k) at (c .before .before .put-link .ensures)) in
     (search needs, search needs, ap length same ∙ length-filled _ (now (a .args .sheet)) (omega (arith, a .pre .1)), same)
 
 same-length : tie.Need-same-length Inv-loop μ-loop

@@ -1,15 +1,14 @@
--- `reading::fill_rules` meets its contract.
+use lib.ListN.{length, length-take, length-drop}
+use Rattle.outline.specs.Book.{bodyOf, rulesEntry, ruleCount, ruleOf, faresOf}
 use native.Mathlib.Omega.{arith}
 use borrow.Author.Needs.{needs}
 use mathlib.Core.Path.{_≡_, refl, sym, ap, _∙_}
 use Prim.Native.Nat.{ℕ, _+_, _*_, _-_, _≤_, _<_}
 use denote.Ref.{now}
-use lib.ListN.{length, length-take, length-drop}
 use mathlib.Core.List.{List}
 use Rattle.outline.specs.Lending.{filled}
 use Rattle.outline.specs.Tests.{inOrder}
 use Rattle.outline.specs.Fares.{ruleAt}
-use Rattle.outline.specs.Book.{ruleCount, ruleOf, faresOf}
 use Rattle.outline.specs.Sheet.{ruleSheet, rulesSheet}
 use Rattle.filling.proofs.Filled.{filled-none, length-filled}
 use Rattle.filling.proofs.InOrder.{order-length, order-turn}
@@ -24,6 +23,17 @@ Inv-loop book sheet₀ n body k₀ sheet k = (n ≡ ruleCount book) × (k ≤ n)
 
 abbrev μ-loop : tie.MeasureT-loop
 μ-loop book sheet₀ n body k₀ sheet k = n - k
+
+-- what is known of a turn once its place is reckoned
+met : (c : tie.After-rules-numbers Inv-loop μ-loop)
+    → (c .rules-numbers .result ≡ 32 * c .before .before .before .loop .k) × (c .before .before .before .loop .k < ruleCount (now (c .before .before .before .before .before .before .before .before .before .before .args .book))) × (length (rulesSheet (faresOf (now (c .before .before .before .before .before .before .before .before .before .before .args .book)))) ≡ 32 * ruleCount (now (c .before .before .before .before .before .before .before .before .before .before .args .book)))
+    × (now (c .before .before .before .before .body .result) ≡ bodyOf (now (c .before .before .before .before .before .before .before .before .before .before .args .book)) (rulesEntry (now (c .before .before .before .before .before .before .before .before .before .before .args .book))))
+met c = (
+  c .rules-numbers .ensures .0 ∙ ap (λ (n : ℕ). 32 * n) (c .before .number .ensures .0),
+  omega (arith, c .before .before .before .loop .inv .0, c .before .before .loop-test .taken),
+  rules-sheet-length _ (book-whole _ (c .before .before .before .before .before .before .before .before .before .before .pre .0)) ∙ ap (λ (n : ℕ). 32 * n) (rules-of (now (c .before .before .before .before .before .before .before .before .before .before .args .book))),
+  rw (c .before .before .before .before .before .wide .ensures .0, c .before .before .before .before .before .before .companies .ensures) at (c .before .before .before .before .body .ensures .0),
+)
 
 rules-requires : tie.Need-rules-requires Inv-loop μ-loop
 rules-requires c κs = search needs
@@ -51,59 +61,19 @@ rules-numbers-requires : tie.Need-rules-numbers-requires Inv-loop μ-loop
 rules-numbers-requires c κs = search needs
 
 mul-put-rule : tie.Need-mul-put-rule Inv-loop μ-loop
-mul-put-rule c =
-    let a = c .before .before .before .before .before .before .before .before .before .before in
-    let b = now (a .args .book) in
-    let k = c .before .before .before .loop .k in
-    let h : k < ruleCount b = omega (arith, c .before .before .before .loop .inv .0, c .before .before .loop-test .taken) in
-    let whole = book-whole b (a .pre .0) in
-    let at : c .rules-numbers .result ≡ 32 * k = c .rules-numbers .ensures .0 ∙ ap (λ (n : ℕ). 32 * n) (c .before .number .ensures .0) in
-    let all = rules-sheet-length (faresOf b) whole in
-    let many = rules-of b in
-    let body = rw (c .before .before .before .before .before .wide .ensures .0, c .before .before .before .before .before .before .companies .ensures) at (c .before .before .before .before .body .ensures .0) in
-    omega arith
+mul-put-rule c = let t = met (c) in omega (arith, c .before .before .before .loop .inv, c .before .before .before .before .before .before .before .before .before .before .pre .1)
 
 sub-put-rule : tie.Need-sub-put-rule Inv-loop μ-loop
-sub-put-rule c =
-    let a = c .before .before .before .before .before .before .before .before .before .before in
-    let b = now (a .args .book) in
-    let k = c .before .before .before .loop .k in
-    let h : k < ruleCount b = omega (arith, c .before .before .before .loop .inv .0, c .before .before .loop-test .taken) in
-    let whole = book-whole b (a .pre .0) in
-    let at : c .rules-numbers .result ≡ 32 * k = c .rules-numbers .ensures .0 ∙ ap (λ (n : ℕ). 32 * n) (c .before .number .ensures .0) in
-    let all = rules-sheet-length (faresOf b) whole in
-    let many = rules-of b in
-    let body = rw (c .before .before .before .before .before .wide .ensures .0, c .before .before .before .before .before .before .companies .ensures) at (c .before .before .before .before .body .ensures .0) in
-    omega (arith, c .before .before .before .loop .inv .2, a .pre .1)
+sub-put-rule c = let t = met (c) in omega (arith, c .before .before .before .loop .inv, c .before .before .before .before .before .before .before .before .before .before .pre .1)
 
 part-put-rule-start : tie.Need-part-put-rule-start Inv-loop μ-loop
-part-put-rule-start c =
-    let a = c .before .before .before .before .before .before .before .before .before .before in
-    let b = now (a .args .book) in
-    let k = c .before .before .before .loop .k in
-    let h : k < ruleCount b = omega (arith, c .before .before .before .loop .inv .0, c .before .before .loop-test .taken) in
-    let whole = book-whole b (a .pre .0) in
-    let at : c .rules-numbers .result ≡ 32 * k = c .rules-numbers .ensures .0 ∙ ap (λ (n : ℕ). 32 * n) (c .before .number .ensures .0) in
-    let all = rules-sheet-length (faresOf b) whole in
-    let many = rules-of b in
-    let body = rw (c .before .before .before .before .before .wide .ensures .0, c .before .before .before .before .before .before .companies .ensures) at (c .before .before .before .before .body .ensures .0) in
-    omega (arith, c .before .before .before .loop .inv .2, a .pre .1)
+part-put-rule-start c = let t = met (c) in omega (arith, c .before .before .before .loop .inv, c .before .before .before .before .before .before .before .before .before .before .pre .1)
 
 part-put-rule-end : tie.Need-part-put-rule-end Inv-loop μ-loop
 part-put-rule-end c = search needs
 
 put-rule-requires : tie.Need-put-rule-requires Inv-loop μ-loop
-put-rule-requires c κs =
-    let a = c .before .before .before .before .before .before .before .before .before .before .before in
-    let b = now (a .args .book) in
-    let k = c .before .before .before .before .loop .k in
-    let h : k < ruleCount b = omega (arith, c .before .before .before .before .loop .inv .0, c .before .before .before .loop-test .taken) in
-    let whole = book-whole b (a .pre .0) in
-    let at : c .before .rules-numbers .result ≡ 32 * k = c .before .rules-numbers .ensures .0 ∙ ap (λ (n : ℕ). 32 * n) (c .before .before .number .ensures .0) in
-    let all = rules-sheet-length (faresOf b) whole in
-    let many = rules-of b in
-    let body = rw (c .before .before .before .before .before .before .wide .ensures .0, c .before .before .before .before .before .before .before .companies .ensures) at (c .before .before .before .before .before .body .ensures .0) in
-    (rw body (rule-fits b (a .pre .0) k (rw (network-rules b) h)), simp (length-take, length-drop) (omega (arith, c .before .before .before .before .loop .inv .2, a .pre .1)))
+put-rule-requires c κs = let t = met (c .before) in (rw (t .3) (rule-fits _ (c .before .before .before .before .before .before .before .before .before .before .before .pre .0) _ (rw (network-rules (now (c .before .before .before .before .before .before .before .before .before .before .before .args .book))) (t .1))), simp (length-take, length-drop) (omega (arith, c .before .before .before .before .loop .inv, c .before .before .before .before .before .before .before .before .before .before .before .pre .1)))
 
 add-k : tie.Need-add-k Inv-loop μ-loop
 add-k c = search needs
@@ -114,19 +84,16 @@ loop-less c = search needs
 loop-again : tie.Need-loop-again Inv-loop μ-loop
 unfolding rulesSheet
 loop-again c =
+    let t = met (c .before .before .before .before) in
     let a = c .before .before .before .before .before .before .before .before .before .before .before .before .before .before in
     let b = now (a .args .book) in
     let k = c .before .before .before .before .before .before .before .loop .k in
-    let h : k < ruleCount b = omega (arith, c .before .before .before .before .before .before .before .loop .inv .0, c .before .before .before .before .before .before .loop-test .taken) in
     let whole = book-whole b (a .pre .0) in
-    let at : c .before .before .before .before .rules-numbers .result ≡ 32 * k = c .before .before .before .before .rules-numbers .ensures .0 ∙ ap (λ (n : ℕ). 32 * n) (c .before .before .before .before .before .number .ensures .0) in
-    let all = rules-sheet-length (faresOf b) whole in
     let many = rules-of b in
-    let body = rw (c .before .before .before .before .before .before .before .before .before .wide .ensures .0, c .before .before .before .before .before .before .before .before .before .before .companies .ensures) at (c .before .before .before .before .before .before .before .before .body .ensures .0) in
     let some = order-length (λ (j : ℕ). ruleSheet (ruleAt (faresOf b) j)) 32 k (λ j l. rule-sheet-length (ruleAt (faresOf b) j) (whole .sized j (omega arith))) in
     let more = order-length (λ (j : ℕ). ruleSheet (ruleAt (faresOf b) j)) 32 (k + 1) (λ j l. rule-sheet-length (ruleAt (faresOf b) j) (whole .sized j (omega arith))) in
-    let rule : ruleOf (now (c .before .before .before .before .before .before .before .before .body .result)) k ≡ ruleAt (faresOf b) k = ap (λ (x : List ℕ). ruleOf x k) body ∙ sym (rule-of b k h) in
-    let same = order-turn (λ (j : ℕ). ruleSheet (ruleAt (faresOf b) j)) (length (faresOf b .rules)) k (now (a .args .sheet)) _ _ _ (omega arith) (a .pre .1) (c .before .before .before .before .before .before .before .loop .inv .3) (at ∙ sym some) (rw rule at (c .before .before .put-rule .ensures)) in
+    let rule : ruleOf (now (c .before .before .before .before .before .before .before .before .body .result)) k ≡ ruleAt (faresOf b) k = ap (λ (x : List ℕ). ruleOf x k) (t .3) ∙ sym (rule-of b k (t .1)) in
+    let same = order-turn (λ (j : ℕ). ruleSheet (ruleAt (faresOf b) j)) (length (faresOf b .rules)) k (now (a .args .sheet)) _ _ _ (omega arith) (a .pre .1) (c .before .before .before .before .before .before .before .loop .inv .3) (t .0 ∙ sym some) (rw rule at (c .before .before .put-rule .ensures)) in
     (search needs, search needs, ap length same ∙ length-filled _ (now (a .args .sheet)) (omega (arith, a .pre .1)), same)
 
 same-length : tie.Need-same-length Inv-loop μ-loop

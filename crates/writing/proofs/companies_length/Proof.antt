@@ -1,17 +1,16 @@
--- `writing::companies_length` meets its contract.
+use Prim.Native.Nat.{ℕ, _+_, _-_, _≤_}
+use lib.ListN.{length}
+use Rattle.writing.proofs.Turns.{Turn, turn}
 use native.Mathlib.Omega.{arith}
 use borrow.Author.Needs.{needs}
 use mathlib.Core.Path.{_≡_, refl, sym, ap, _∙_}
-use Prim.Native.Nat.{ℕ, _+_, _-_, _≤_, _<_}
 use denote.Ref.{now}
-use lib.ListN.{length}
 use Rattle.outline.specs.Tests.{inOrder}
 use Rattle.outline.specs.Book.{companyLength}
 use Rattle.outline.specs.Sheet.{companiesIn, companyStart, faresIn}
 use Rattle.outline.specs.Writing.{bodyIn}
 use Rattle.laws.proofs.Sheet.{start-first}
 use Rattle.filling.proofs.InOrder.{order-more-length}
-use Rattle.writing.proofs.Turns.{turn}
 use Rattle.writing.proofs.companies_length.Statement.{statement}
 use Rattle.writing.proofs.companies_length.Tie as tie
 
@@ -21,6 +20,10 @@ Inv-loop sheet n at₀ long₀ c₀ at long c = (n ≡ companiesIn sheet) × (c 
 abbrev μ-loop : tie.MeasureT-loop
 μ-loop sheet n at₀ long₀ c₀ at long c = n - c
 
+-- what a turn meets
+met : (c : tie.In-loop Inv-loop μ-loop) → Turn (now (c .before .before .before .before .args .sheet)) (c .before .loop .k) (c .before .loop .at)
+met c = turn _ (c .before .before .before .before .pre) _ _ (omega (arith, c .before .loop .inv .0, c .loop-test .taken)) (c .before .loop .inv .2)
+
 companies-requires : tie.Need-companies-requires Inv-loop μ-loop
 companies-requires c κs = search needs
 
@@ -29,56 +32,28 @@ unfolding inOrder
 loop-holds c = (search needs, search needs, sym (start-first _), refl)
 
 mul-stations : tie.Need-mul-stations Inv-loop μ-loop
-mul-stations c =
-    let a = c .before .before .before .before in
-    let s = now (a .args .sheet) in
-    let k = c .before .loop .k in
-    let h : k < companiesIn s = omega (arith, c .before .loop .inv .0, c .loop-test .taken) in
-    let t = turn s (a .pre) k (c .before .loop .at) h (c .before .loop .inv .2) in
-    omega (arith, t .inside)
+mul-stations c = let t = met (c) in omega arith
 
 shared-slice-read-stations : tie.Need-shared-slice-read-stations Inv-loop μ-loop
-shared-slice-read-stations c =
-    let a = c .before .before .before .before .before in
-    let s = now (a .args .sheet) in
-    let k = c .before .before .loop .k in
-    let h : k < companiesIn s = omega (arith, c .before .before .loop .inv .0, c .before .loop-test .taken) in
-    let t = turn s (a .pre) k (c .before .before .loop .at) h (c .before .before .loop .inv .2) in
-    omega (arith, t .inside)
+shared-slice-read-stations c = let t = met (c .before) in omega arith
 
 byte-requires : tie.Need-byte-requires Inv-loop μ-loop
-byte-requires c κs =
-    let a = c .before .before .before .before .before in
-    let s = now (a .args .sheet) in
-    let k = c .before .before .loop .k in
-    let h : k < companiesIn s = omega (arith, c .before .before .loop .inv .0, c .before .loop-test .taken) in
-    let t = turn s (a .pre) k (c .before .before .loop .at) h (c .before .before .loop .inv .2) in
-    omega (arith, t .few)
+byte-requires c κs = let t = met (c .before) in omega arith
 
 company-length-requires : tie.Need-company-length-requires Inv-loop μ-loop
 company-length-requires c κs = search needs
 
 add-long : tie.Need-add-long Inv-loop μ-loop
 add-long c =
-    let a = c .before .before .before .before .before .before .before in
-    let s = now (a .args .sheet) in
-    let k = c .before .before .before .before .loop .k in
-    let h : k < companiesIn s = omega (arith, c .before .before .before .before .loop .inv .0, c .before .before .before .loop-test .taken) in
-    let t = turn s (a .pre) k (c .before .before .before .before .loop .at) h (c .before .before .before .before .loop .inv .2) in
-    let one : c .company-length .result ≡ length (bodyIn (faresIn s) k) = c .company-length .ensures ∙ ap (λ (n : ℕ). companyLength n) (c .before .byte .ensures) ∙ sym (t .long) in
-    omega (arith, c .before .before .before .before .loop .inv .3, t .room, t .most)
+    let t = met (c .before .before .before) in
+    let one = c .company-length .ensures ∙ ap (λ (n : ℕ). companyLength n) (c .before .byte .ensures) ∙ sym (t .long) in
+    omega (arith, c .before .before .before .before .loop .inv .3)
 
 table-numbers-requires : tie.Need-table-numbers-requires Inv-loop μ-loop
 table-numbers-requires c κs = search needs
 
 add-at : tie.Need-add-at Inv-loop μ-loop
-add-at c =
-    let a = c .before .before .before .before .before .before .before .before in
-    let s = now (a .args .sheet) in
-    let k = c .before .before .before .before .before .loop .k in
-    let h : k < companiesIn s = omega (arith, c .before .before .before .before .before .loop .inv .0, c .before .before .before .before .loop-test .taken) in
-    let t = turn s (a .pre) k (c .before .before .before .before .before .loop .at) h (c .before .before .before .before .before .loop .inv .2) in
-    omega (arith, t .inside, c .table-numbers .ensures .0)
+add-at c = let t = met (c .before .before .before .before) in omega (arith, c .table-numbers .ensures .0)
 
 add-k : tie.Need-add-k Inv-loop μ-loop
 add-k c = search needs
@@ -88,13 +63,9 @@ loop-less c = search needs
 
 loop-again : tie.Need-loop-again Inv-loop μ-loop
 loop-again c =
-    let a = c .before .before .before .before .before .before .before .before in
-    let s = now (a .args .sheet) in
-    let k = c .before .before .before .before .before .loop .k in
-    let h : k < companiesIn s = omega (arith, c .before .before .before .before .before .loop .inv .0, c .before .before .before .before .loop-test .taken) in
-    let t = turn s (a .pre) k (c .before .before .before .before .before .loop .at) h (c .before .before .before .before .before .loop .inv .2) in
-    let one : c .before .company-length .result ≡ length (bodyIn (faresIn s) k) = c .before .company-length .ensures ∙ ap (λ (n : ℕ). companyLength n) (c .before .before .byte .ensures) ∙ sym (t .long) in
-    (search needs, search needs, ap (λ (n : ℕ). c .before .before .before .before .before .loop .at + n) (c .table-numbers .ensures .0) ∙ t .next, omega (arith, c .before .before .before .before .before .loop .inv .3, order-more-length (bodyIn (faresIn s)) k))
+    let t = met (c .before .before .before .before) in
+    let one = c .before .company-length .ensures ∙ ap (λ (n : ℕ). companyLength n) (c .before .before .byte .ensures) ∙ sym (t .long) in
+    (search needs, search needs, ap (λ (n : ℕ). c .before .before .before .before .before .loop .at + n) (c .table-numbers .ensures .0) ∙ t .next, omega (arith, c .before .before .before .before .before .loop .inv .3, order-more-length (bodyIn (faresIn (now (c .before .before .before .before .before .before .before .before .args .sheet)))) (c .before .before .before .before .before .loop .k)))
 
 returns : tie.Need-returns Inv-loop μ-loop
 returns c = let e : c .before .loop .k ≡ companiesIn (now (c .before .before .before .before .args .sheet)) = omega (arith, c .before .loop .inv .0, c .loop-test .left) in c .before .loop .inv .3 ∙ ap (λ (j : ℕ). length (inOrder (bodyIn (faresIn (now (c .before .before .before .before .args .sheet)))) j)) e
