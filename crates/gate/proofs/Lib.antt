@@ -1,4 +1,1 @@
-pub mod Places
-pub mod Telling
 pub mod Unique
-pub mod Readable

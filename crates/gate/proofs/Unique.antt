@@ -1,6 +1,6 @@
 -- Each contract of the C face allows one answer and one list left behind. `Post` is the contract as it stands beside the code: of the
 -- arguments, the word and the lent memory at the end.
-use mathlib.Core.Path.{_≡_, sym, ap, _∙_}
+use mathlib.Core.Path.{_≡_, sym, _∙_}
 use mathlib.Core.List.{List}
 use Prim.Native.Nat.{ℕ}
 use denote.Ref.{now}

@@ -9,7 +9,6 @@ use outline::Written;
 ghost use mathlib.Core.Path.{_≡_};
 ghost use Prim.Native.Nat.{_≤_};
 ghost use lib.ListN.{length};
-ghost use Rattle.outline.specs.declared.Judged.the-variants.{Good};
 ghost use Rattle.outline.specs.Lending.{answered, leaves, filled};
 ghost use Rattle.telling.specs.Answers.{paidNumber, placeNumbers, placesNumbers, answerNumbers};
 

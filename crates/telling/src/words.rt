@@ -4,9 +4,9 @@ use outline::Refusal;
 use outline::Written;
 ghost use mathlib.Core.Path.{_≡_};
 ghost use Prim.Native.Nat.{_<_};
-ghost use Rattle.outline.specs.Refusals.{numberOf, placeOf};
+ghost use Rattle.outline.specs.Refusals.{placeOf};
 ghost use Rattle.outline.specs.Lending.{refusalPlaceOf};
-ghost use Rattle.telling.specs.Word.{word, refusedWord, partWord, writtenWord, mostPlace};
+ghost use Rattle.telling.specs.Word.{refusedWord, partWord, writtenWord, mostPlace};
 
 const NUMBER: u64 = 4294967296;
 

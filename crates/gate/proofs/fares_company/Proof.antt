@@ -1,6 +1,5 @@
 -- `gate::fares_company` meets its contract.
 use mathlib.Core.Path.{sym, _∙_}
-use native.Mathlib.Omega.{arith}
 use borrow.Author.Tests.{le-ltb, lt-ltb}
 use Rattle.outline.specs.Tests.{choose}
 use Rattle.outline.specs.Judging.{companyBody, companyOffset, whereGood}

@@ -1,13 +1,8 @@
 -- `telling::answers::put_places` meets its contract.
-use Prim.Native.Nat.{ℕ, _+_, _*_, _-_, _≤_, _<_}
-use mathlib.Core.Path.{_≡_, refl, sym, ap, _∙_}
+use Prim.Native.Nat.{_-_}
 use native.Mathlib.Omega.{arith}
 use borrow.Author.Needs.{needs}
-use denote.Ref.{now}
-use lib.ListN.{length, take, drop, length-take, length-drop}
-use Rattle.outline.specs.Lending.{filled}
-use Rattle.telling.specs.Answers.{placesNumbers}
-use Rattle.filling.proofs.Filled.{length-filled, filled-lent}
+use lib.ListN.{length-take, length-drop}
 use Rattle.telling.proofs.Putting.{Put, put-none, put-more, put-all}
 use Rattle.telling.proofs.answers.put_places.Statement.{statement}
 use Rattle.telling.proofs.answers.put_places.Tie as tie

@@ -1,6 +1,6 @@
 -- The places that refusals name fit the word's 24 bits.
-use Prim.Native.Nat.{ℕ, zero, suc, _+_, _*_, _/_, _≤_, _<_}
-use mathlib.Core.Path.{_≡_, refl, sym, ap, _∙_}
+use Prim.Native.Nat.{ℕ, zero, suc, _+_, _*_, _≤_, _<_}
+use mathlib.Core.Path.{_≡_, refl}
 use mathlib.Core.Bool.{Bool, true, false}
 use mathlib.Core.List.{List}
 use mathlib.Core.Logic.{⊎-elim}
@@ -11,14 +11,13 @@ use Rattle.outline.specs.declared.Refusal.the-variants.{WrongLength, UnknownLay
 use Rattle.outline.specs.declared.Judged.{Judged}
 use Rattle.outline.specs.declared.Judged.the-variants.{Good, Refused}
 use Rattle.outline.specs.declared.Question.{Question}
-use Rattle.outline.specs.Numbers.{mostCompanies, mostStations}
-use Rattle.outline.specs.Refusals.{numberOf, placeOf, demand, _andThen_, firstBelow}
+use Rattle.outline.specs.Refusals.{placeOf, demand, _andThen_, firstBelow}
 use Rattle.outline.specs.Fares.{Fares, tableAt}
 use Rattle.outline.specs.Network.{Network, networkOf}
-use Rattle.outline.specs.Book.{network, faresOf, companyCount, offsetOf, lengthOf, endBefore, bodyOf, stationCount, companyLength, entryPlace}
+use Rattle.outline.specs.Book.{network, faresOf, companyCount, offsetOf, endBefore, bodyOf, stationCount}
 use Rattle.outline.specs.Valid.{LaidOut}
 use Rattle.outline.specs.Judging.{entryCheck, rowCheck, tableCheck, tablesCheck, linkCheck, ruleCheck, faresCheck, bookCheck, entryOffset}
-use Rattle.outline.specs.Sheet.{companiesIn, linksIn, rulesIn, companyStart, stationsIn, faresIn}
+use Rattle.outline.specs.Sheet.{companiesIn, companyStart, stationsIn, faresIn}
 use Rattle.outline.specs.SheetValid.{Counts, CompanyNumbers, SheetLaidOut}
 use Rattle.outline.specs.SheetJudging.{countsCheck, numbersCheck, remainderCheck, entryIndex, sheetCheck}
 use Rattle.outline.specs.Routes.{goodLength, routeOf, rideCheck, routeCheck}

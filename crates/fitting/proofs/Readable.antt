@@ -1,6 +1,6 @@
 -- No part of a word runs into another: from every word that the C face returns, its bits give back what was written, the refusal's number
 -- and its place.
-use Prim.Native.Nat.{ℕ, _≤_, _<_}
+use Prim.Native.Nat.{ℕ, _<_}
 use mathlib.Core.Path.{_≡_, refl}
 use mathlib.Core.Bool.{Bool, true, false}
 use mathlib.Core.List.{List, []}
@@ -34,8 +34,8 @@ use Rattle.telling.specs.Word.{mostPlace, refusedWord, partWord, writtenWord}
 use Rattle.telling.specs.Answers.{answerNumbers, answerWritten}
 use Rattle.telling.proofs.Parts.{Parts, word-parts}
 use Rattle.telling.proofs.Putting.{numbers-length}
-use Rattle.gate.proofs.Places.{offset-small, book-places, sheet-places}
-use Rattle.gate.proofs.Telling.{Tellable, price-tellable, asked-tellable, written-small}
+use Rattle.fitting.proofs.Places.{offset-small, book-places, sheet-places}
+use Rattle.fitting.proofs.Telling.{Tellable, price-tellable, asked-tellable, written-small}
 
 number-small : (x : Refusal) → numberOf x < 256
 number-small WrongLength = omega arith

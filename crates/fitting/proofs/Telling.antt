@@ -1,33 +1,30 @@
 -- What the C face may take for granted of an answer: four places, and a refusal whose place fits the word.
-use Prim.Native.Nat.{ℕ, _+_, _*_, _≤_, _<_}
-use mathlib.Core.Path.{_≡_, refl, sym, ap, _∙_}
+use Prim.Native.Nat.{ℕ, _<_}
+use mathlib.Core.Path.{_≡_, refl}
 use mathlib.Core.Bool.{Bool, true, false}
-use mathlib.Core.List.{List, [], _∷_, _++_}
+use mathlib.Core.List.{List}
 use mathlib.Core.Logic.{inl, inr}
 use native.Mathlib.Omega.{arith}
-use lib.ListN.{length, take, getD}
+use lib.ListN.{length}
 use lib.Dec.{leb}
 use Rattle.outline.specs.declared.Refusal.{Refusal}
 use Rattle.outline.specs.declared.Refusal.the-variants.{NoRoute, NoRoom}
 use Rattle.outline.specs.declared.Judged.{Judged}
 use Rattle.outline.specs.declared.Judged.the-variants.{Good, Refused}
 use Rattle.outline.specs.declared.Leg.{Leg}
-use Rattle.outline.specs.declared.Ride.{Ride}
 use Rattle.outline.specs.declared.Question.{Question}
 use Rattle.outline.specs.declared.Answer.{Answer}
 use Rattle.outline.specs.Tests.{choose}
-use Rattle.outline.specs.Refusals.{_andThen_}
 use Rattle.outline.specs.Network.{Network}
 use Rattle.outline.specs.Book.{network}
-use Rattle.outline.specs.Judging.{bookCheck}
-use Rattle.outline.specs.Routes.{routeCheck, routeOf}
+use Rattle.outline.specs.Routes.{routeOf}
 use Rattle.outline.specs.Price.{answerWith, answerOf, refusedAnswer, answerTo, priceOf}
-use Rattle.outline.specs.Questions.{Answered, AnswerTo, Asked, questionCheck}
+use Rattle.outline.specs.Questions.{Answered, AnswerTo, Asked}
 use Rattle.laws.proofs.Named.{Names, names-good, names-then, same-refusal}
 use Rattle.outline.specs.declared.Written.the-variants.{Wrote, NotWritten}
 use Rattle.outline.specs.Lending.{refusalPlaceOf, answered}
 use Rattle.telling.specs.Word.{mostPlace}
-use Rattle.gate.proofs.Places.{Small, book-places, route-places, question-places}
+use Rattle.fitting.proofs.Places.{Small, book-places, route-places, question-places}
 
 pub record Tellable (a : Answer) : Type 0 where
   pub four : length (a .places) ≡ 4
