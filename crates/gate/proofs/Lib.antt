@@ -1,3 +1,1 @@
-pub mod Places
-pub mod Telling
 pub mod Unique

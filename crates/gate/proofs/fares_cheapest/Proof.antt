@@ -1,7 +1,7 @@
 -- `gate::fares_cheapest` meets its contract.
 use mathlib.Core.Path.{ap, _∙_}
 use Rattle.telling.specs.Word.{writtenWord}
-use Rattle.gate.proofs.Telling.{asked-tellable, written-small}
+use Rattle.fitting.proofs.Telling.{asked-tellable, written-small}
 use borrow.Author.Needs.{needs}
 use Rattle.gate.proofs.fares_cheapest.Statement.{statement}
 use Rattle.gate.proofs.fares_cheapest.Tie as tie

@@ -1,6 +1,6 @@
 -- `gate::fares_check` meets its contract.
 use mathlib.Core.Path.{sym, _∙_}
-use Rattle.gate.proofs.Places.{book-places}
+use Rattle.fitting.proofs.Places.{book-places}
 use borrow.Author.Needs.{needs}
 use Rattle.gate.proofs.fares_check.Statement.{statement}
 use Rattle.gate.proofs.fares_check.Tie as tie

@@ -1,7 +1,7 @@
 -- `gate::fares_price` meets its contract.
 use mathlib.Core.Path.{ap, _∙_}
 use Rattle.telling.specs.Word.{writtenWord}
-use Rattle.gate.proofs.Telling.{price-tellable, written-small}
+use Rattle.fitting.proofs.Telling.{price-tellable, written-small}
 use borrow.Author.Needs.{needs}
 use Rattle.gate.proofs.fares_price.Statement.{statement}
 use Rattle.gate.proofs.fares_price.Tie as tie

@@ -1,3 +1,4 @@
+-- `numbers::put_rule` meets its contract.
 use mathlib.Core.Path.{_≡_, ap, _∙_}
 use Prim.Native.Nat.{ℕ}
 use lib.ListN.{length, length-set, length-take, length-drop, length-append}

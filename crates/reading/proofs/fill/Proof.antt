@@ -1,3 +1,4 @@
+-- `reading::fill` meets its contract.
 use Prim.Native.Nat.{ℕ, _+_, _*_}
 use lib.ListN.{length, length-take, length-drop, length-append}
 use Rattle.reading.proofs.Parts.{Parts, parts}

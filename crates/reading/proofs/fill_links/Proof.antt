@@ -1,3 +1,4 @@
+-- `reading::fill_links` meets its contract.
 use lib.ListN.{length, length-take, length-drop}
 use native.Mathlib.Omega.{arith}
 use borrow.Author.Needs.{needs}

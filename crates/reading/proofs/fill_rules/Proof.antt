@@ -1,3 +1,4 @@
+-- `reading::fill_rules` meets its contract.
 use lib.ListN.{length, length-take, length-drop}
 use Rattle.outline.specs.Book.{bodyOf, rulesEntry, ruleCount, ruleOf, faresOf}
 use native.Mathlib.Omega.{arith}

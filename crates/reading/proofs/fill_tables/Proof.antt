@@ -1,3 +1,4 @@
+-- `reading::fill_tables` meets its contract.
 use mathlib.Core.List.{List}
 use Prim.Native.Nat.{ℕ, _-_, _≤_, _<_}
 use lib.ListN.{length, length-take, length-drop}

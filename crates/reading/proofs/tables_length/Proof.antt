@@ -1,3 +1,4 @@
+-- `reading::tables_length` meets its contract.
 use Prim.Native.Nat.{ℕ, _-_, _≤_}
 use lib.ListN.{length}
 use Rattle.reading.proofs.Parts.{tableList, TableTurn, table-turn}

@@ -1,3 +1,4 @@
+-- `writing::companies_length` meets its contract.
 use Prim.Native.Nat.{ℕ, _+_, _-_, _≤_}
 use lib.ListN.{length}
 use Rattle.writing.proofs.Turns.{Turn, turn}

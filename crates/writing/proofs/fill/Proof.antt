@@ -1,3 +1,4 @@
+-- `writing::fill` meets its contract.
 use Prim.Native.Nat.{ℕ, _+_}
 use lib.ListN.{length, length-take, length-drop, length-append}
 use mathlib.Core.List.{List, _++_, append-assoc}

@@ -1,3 +1,4 @@
+-- `writing::put_companies` meets its contract.
 use Prim.Native.Nat.{ℕ, _+_, _-_, _≤_, _<_}
 use lib.ListN.{length, length-take, length-drop}
 use Rattle.writing.proofs.Turns.{Turn, turn}

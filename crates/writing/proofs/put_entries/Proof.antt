@@ -1,3 +1,4 @@
+-- `writing::put_entries` meets its contract.
 use lib.ListN.{length, length-take, length-drop}
 use Rattle.writing.proofs.Turns.{Turn, turn, parts}
 use native.Mathlib.Omega.{arith}

@@ -53,7 +53,7 @@ names-below Q f (suc n) p = names-then Q (firstBelow f n) (f n) (names-below Q f
 -- ---- a book
 
 -- where a body begins: after the contents and the bodies before it
-offset-small : (b : List ℕ) → LaidOut b → (c : ℕ) → c < companyCount b → offsetOf b c ≤ 76 + 3201 * c
+pub offset-small : (b : List ℕ) → LaidOut b → (c : ℕ) → c < companyCount b → offsetOf b c ≤ 76 + 3201 * c
 unfolding endBefore
 offset-small b w zero h = omega (arith, w .companies 0 h .body .follows, w .header .companies .to)
 offset-small b w (suc c) h =

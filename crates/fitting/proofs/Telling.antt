@@ -24,7 +24,7 @@ use Rattle.laws.proofs.Named.{Names, names-good, names-then, same-refusal}
 use Rattle.outline.specs.declared.Written.the-variants.{Wrote, NotWritten}
 use Rattle.outline.specs.Lending.{refusalPlaceOf, answered}
 use Rattle.telling.specs.Word.{mostPlace}
-use Rattle.gate.proofs.Places.{Small, book-places, route-places, question-places}
+use Rattle.fitting.proofs.Places.{Small, book-places, route-places, question-places}
 
 pub record Tellable (a : Answer) : Type 0 where
   pub four : length (a .places) ≡ 4
