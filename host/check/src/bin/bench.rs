@@ -5,7 +5,13 @@ use check::books::{self, Kind};
 use check::journeys;
 use check::random::Random;
 use std::hint::black_box;
+use std::io::{Read, Write};
+use std::path::Path;
+use std::process::{Command, Stdio};
 use std::time::Instant;
+
+/// How long the pair lister may run.
+const LISTER_SECONDS: f64 = 120.0;
 
 struct Bench {
     seconds: f64,
@@ -18,23 +24,23 @@ struct Times {
 }
 
 impl Bench {
-    /// The mean time of a call, of as many as there is time for: at least one, at most `most`.
-    fn time(&self, most: usize, mut call: impl FnMut(usize)) -> (f64, usize) {
-        let since = Instant::now();
-        let mut done = 0;
-        while done < most && (done == 0 || since.elapsed().as_secs_f64() < self.seconds) {
-            call(done);
-            done += 1;
-        }
-        (since.elapsed().as_secs_f64() / done as f64, done)
-    }
-
-    /// Both on the same calls, in turn, and a line of the table.
-    fn both(&self, what: &str, proved: impl FnMut(usize), plain: impl FnMut(usize), most: usize) -> Times {
+    /// Both on the same calls, one after the other, as many as there is time for, and a line of the table.
+    fn both(&self, what: &str, mut proved: impl FnMut(usize), mut plain: impl FnMut(usize), most: usize) -> Times {
         eprint!("{what} ..\r");
-        let (plain, calls) = self.time(most, plain);
-        let (proved, _) = self.time(calls, proved);
-        let times = Times { proved, plain };
+        let since = Instant::now();
+        let mut times = Times { proved: 0.0, plain: 0.0 };
+        let mut calls = 0;
+        while calls < most && (calls == 0 || since.elapsed().as_secs_f64() < self.seconds) {
+            let begin = Instant::now();
+            proved(calls);
+            let middle = Instant::now();
+            plain(calls);
+            times.proved += (middle - begin).as_secs_f64();
+            times.plain += middle.elapsed().as_secs_f64();
+            calls += 1;
+        }
+        times.proved /= calls as f64;
+        times.plain /= calls as f64;
         line(what, &times, &format!("{calls} calls"));
         times
     }
@@ -98,6 +104,38 @@ fn list(bench: &Bench, bytes: &[u8], book: &plain::Book, random: &mut Random) {
         count += pairs.len();
     }
     line("list all pairs, by asking each", &all, &format!("reckoned for {count} pairs from those asked"));
+    if let Some((seconds, note)) = lister(bytes, count) {
+        line("list all pairs, by the lister", &Times { proved: seconds, plain: all.plain }, &note);
+    }
+}
+
+/// Runs the pair lister, where it is built, and says how long it took and how far it came.
+fn lister(bytes: &[u8], pairs: usize) -> Option<(f64, String)> {
+    let program = Path::new(env!("CARGO_MANIFEST_DIR")).join("../../target/bin/pairs");
+    if !program.exists() {
+        return None;
+    }
+    let since = Instant::now();
+    let mut child = Command::new(program).stdin(Stdio::piped()).stdout(Stdio::piped()).spawn().ok()?;
+    child.stdin.take()?.write_all(bytes).ok()?;
+    let mut output = child.stdout.take()?;
+    let mut buffer = [0; 65_536];
+    let mut lines = 0;
+    while since.elapsed().as_secs_f64() < LISTER_SECONDS {
+        match output.read(&mut buffer) {
+            Ok(0) | Err(_) => break,
+            Ok(n) => lines += buffer[..n].iter().filter(|&&b| b == b'\n').count(),
+        }
+        eprint!("list all pairs, by the lister: {lines} of {pairs} lines\r");
+    }
+    let seconds = since.elapsed().as_secs_f64();
+    let _ = child.kill();
+    let _ = child.wait();
+    if lines == pairs {
+        return Some((seconds, format!("{lines} lines")));
+    }
+    let all = seconds * pairs as f64 / lines.max(1) as f64;
+    Some((all, format!("reckoned from the first {lines} lines, {seconds:.0} s")))
 }
 
 fn measure(bench: &Bench, name: &str, kind: Kind) {
