@@ -1,7 +1,12 @@
 // A reader's or a writer's answer as a line of text.
 use outline::Written;
+ghost use Prim.Native.Nat.{_≤_};
+ghost use lib.ListN.{length};
+ghost use Rattle.text.specs.Lines.{nextLine};
 
-fn put_written(out: &mut [u8], at: usize, written: Written) -> usize {
+fn put_written(out: &mut [u8], at: usize, written: Written) -> usize
+    ensures { λ r. ⌜ at ≤ r ⌝ }
+{
     match written {
         Written::Wrote(n) => {
             let number = text::lines::put_text(out, at, b"wrote ");
@@ -11,7 +16,9 @@ fn put_written(out: &mut [u8], at: usize, written: Written) -> usize {
     }
 }
 
-fn put_back(out: &mut [u8], at: usize, back: bool) -> usize {
+fn put_back(out: &mut [u8], at: usize, back: bool) -> usize
+    ensures { λ r. ⌜ at ≤ r ⌝ }
+{
     if back {
         return text::lines::put_text(out, at, b" back\n");
     }
@@ -19,7 +26,9 @@ fn put_back(out: &mut [u8], at: usize, back: bool) -> usize {
 }
 
 // Puts the line of an answer, of a sum and of a round trip after the first n bytes of the buffer, and answers where it ends.
-pub fn put(out: &mut [u8], n: usize, written: Written, sum: u64, back: bool) -> usize {
+pub fn put(out: &mut [u8], n: usize, written: Written, sum: u64, back: bool) -> usize
+    ensures { λ r. ⌜ nextLine n (length (now (out .entry))) ≤ r ⌝ }
+{
     let at = text::lines::room(out, n);
     let answer = put_written(out, at, written);
     let space = text::lines::put_text(out, answer, b" ");

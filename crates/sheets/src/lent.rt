@@ -4,6 +4,8 @@ use crate::line::Line;
 use crate::sum;
 use layout::bytes::number;
 ghost use Prim.Native.Nat.{_≤_};
+ghost use lib.ListN.{length};
+ghost use Rattle.text.specs.Lines.{nextLine};
 
 // What stands in a lent list before anything is written.
 const BYTE: u8 = 165;
@@ -64,7 +66,9 @@ fn book_back(data: &[u8], n: usize) -> bool {
 }
 
 // Reads the book of so many bytes.
-fn read(data: &[u8], n: usize, lent: usize, out: &mut [u8], end: usize) -> usize {
+fn read(data: &[u8], n: usize, lent: usize, out: &mut [u8], end: usize) -> usize
+    ensures { λ r. ⌜ nextLine end (length (now (out .entry))) ≤ r ⌝ }
+{
     let mut space = numbers();
     let all: &mut [u16] = &mut space;
     let long = at_most(n, data.len());
@@ -76,7 +80,9 @@ fn read(data: &[u8], n: usize, lent: usize, out: &mut [u8], end: usize) -> usize
 }
 
 // Writes the book of the sheet that the first n of these numbers are.
-fn write(given: &[u16], n: usize, lent: usize, out: &mut [u8], end: usize) -> usize {
+fn write(given: &[u16], n: usize, lent: usize, out: &mut [u8], end: usize) -> usize
+    ensures { λ r. ⌜ nextLine end (length (now (out .entry))) ≤ r ⌝ }
+{
     let mut space = bytes();
     let all: &mut [u8] = &mut space;
     let long = at_most(n, given.len());
@@ -88,7 +94,9 @@ fn write(given: &[u16], n: usize, lent: usize, out: &mut [u8], end: usize) -> us
 }
 
 // Writes the book of the sheet of so many numbers, two bytes each.
-fn write_numbers(data: &[u8], n: usize, lent: usize, out: &mut [u8], end: usize) -> usize {
+fn write_numbers(data: &[u8], n: usize, lent: usize, out: &mut [u8], end: usize) -> usize
+    ensures { λ r. ⌜ nextLine end (length (now (out .entry))) ≤ r ⌝ }
+{
     let mut space = numbers();
     let sheet: &mut [u16] = &mut space;
     numbers_of(data, sheet, n);
@@ -96,7 +104,9 @@ fn write_numbers(data: &[u8], n: usize, lent: usize, out: &mut [u8], end: usize)
 }
 
 // Runs a line, and puts its answer after the first `end` bytes of the buffer.
-pub fn run(line: Line, data: &[u8], out: &mut [u8], end: usize) -> usize {
+pub fn run(line: Line, data: &[u8], out: &mut [u8], end: usize) -> usize
+    ensures { λ r. ⌜ nextLine end (length (now (out .entry))) ≤ r ⌝ }
+{
     if line.writes {
         return write_numbers(data, line.digits / 4, line.lent, out, end);
     }

@@ -1,5 +1,8 @@
 // A line of the input, taken in byte by byte.
 
+ghost use mathlib.Core.Path.{_≡_};
+ghost use lib.ListN.{length};
+
 // More than the longest list that is lent.
 const MOST: usize = 65536;
 
@@ -35,7 +38,9 @@ fn repeat(data: &mut [u8], count: usize, back: usize, long: usize) -> usize {
 }
 
 impl Line {
-    pub fn new() -> Line {
+    pub fn new() -> Line
+        ensures { λ r. ⌜ r .digits ≡ 0 ⌝ }
+    {
         Line {
             writes: false,
             lent: 0,
@@ -81,7 +86,9 @@ impl Line {
     }
 
     // The line with its next byte.
-    pub fn next(mut self, data: &mut [u8], x: u8) -> Line {
+    pub fn next(mut self, data: &mut [u8], x: u8) -> Line
+        ensures { λ _. ⌜ length (now («data» .exit)) ≡ length (now («data» .entry)) ⌝ }
+    {
         match x {
             b'w' => {
                 self.writes = true;

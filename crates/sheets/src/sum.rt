@@ -1,4 +1,5 @@
 // The Adler-32 sum of a list of bytes or of numbers.
+ghost use Prim.Native.Nat.{_<_};
 
 const BASE: u64 = 65521;
 
@@ -20,12 +21,16 @@ impl Sum {
         }
     }
 
-    fn value(self) -> u64 {
+    fn value(self) -> u64
+        ensures { λ r. ⌜ r < 4294967296 ⌝ }
+    {
         65536 * (self.high % BASE) + self.low % BASE
     }
 }
 
-pub fn of_bytes(bytes: &[u8]) -> u64 {
+pub fn of_bytes(bytes: &[u8]) -> u64
+    ensures { λ r. ⌜ r < 4294967296 ⌝ }
+{
     let mut sum = Sum::new();
     let mut i: usize = 0;
     while i < bytes.len() {
@@ -35,7 +40,9 @@ pub fn of_bytes(bytes: &[u8]) -> u64 {
     sum.value()
 }
 
-pub fn of_numbers(numbers: &[u16]) -> u64 {
+pub fn of_numbers(numbers: &[u16]) -> u64
+    ensures { λ r. ⌜ r < 4294967296 ⌝ }
+{
     let mut sum = Sum::new();
     let mut i: usize = 0;
     while i < numbers.len() {
