@@ -4,9 +4,12 @@
 use Prim.Native.Nat.{ℕ}
 use mathlib.Core.Path.{_≡_, sym, ap, _∙_}
 use mathlib.Core.Logic.{_↔_}
+use mathlib.Core.Bool.{Bool}
 use mathlib.Core.List.{List}
 use denote.Ref.{now}
 use Rattle.outline.specs.declared.Leg.{Leg}
+use Rattle.outline.specs.declared.Question.{Question}
+use Rattle.outline.specs.Tests.{choose}
 use Rattle.outline.specs.declared.Answer.{Answer}
 use Rattle.outline.specs.declared.Written.{Written}
 use Rattle.outline.specs.declared.Written.the-variants.{NotWritten}
@@ -18,12 +21,13 @@ use Rattle.outline.specs.Book.{faresOf, network}
 use Rattle.outline.specs.Sheet.{faresIn, sheetOf}
 use Rattle.outline.specs.SheetValid.{ValidSheet}
 use Rattle.outline.specs.Writing.{bookOf}
-use Rattle.outline.specs.Lending.{leaves, readLeaves, writeLeaves}
+use Rattle.outline.specs.Lending.{filled, leaves, readLeaves, writeLeaves}
 use Rattle.outline.specs.Valid.{ValidBook, Bytes}
 use Rattle.outline.specs.Judging.{bookCheck}
-use Rattle.outline.specs.Price.{refusedAnswer}
-use Rattle.outline.specs.Questions.{Joins, Answered, GoodQuestion, questionCheck}
+use Rattle.outline.specs.Price.{Priced, refusedAnswer}
+use Rattle.outline.specs.Questions.{Joins, Found, Answered, GoodQuestion, questionCheck}
 use Rattle.laws.proofs.Judging.{book-good}
+use Rattle.choice.proofs.Priced.{priced-is}
 use Rattle.choice.proofs.Prices as prices
 use Rattle.roundtrip.proofs.Trips.{sheet-there-and-back, book-there-and-back}
 use Rattle.cheapest.proofs.Earlier.{one-answer}
@@ -33,6 +37,8 @@ use Rattle.price.proofs.price.Reads as price
 use Rattle.search.proofs.cheapest.Reads as cheapest
 use Rattle.sheet.proofs.read.Reads as read
 use Rattle.sheet.proofs.write.Reads as write
+use Rattle.sheet.proofs.trips.sheet_returns.Reads as sheet_returns
+use Rattle.sheet.proofs.trips.book_returns.Reads as book_returns
 
 -- ---- 1. Every book, sheet, route and question is answered, or refused with its number and place exactly when the outline says so.
 
@@ -77,6 +83,10 @@ pub cheapest-answered : (κs : _) (a : _) (r : Answer) (e : _) → cheapest.Post
     → Answered (network (now (a .0))) (a .1 .0) r
 cheapest-answered κs a r e p v g = answered (now (a .0)) (a .1 .0) r p v g
 
+-- what was found is the price of its route, by the one best selection of its runs
+pub best-discounts : (b : List ℕ) (q : Question) (r : Answer) (f : Found (network b) q r) → Priced (network b) (f .route) r
+best-discounts b q r f = priced-is (network b) (f .route) r .1 (f .is)
+
 -- "No route" exactly when none exists.
 pub no-route-exactly : (κs : _) (a : _) (r : Answer) (e : _) → cheapest.Post κs a r e → ValidBook (now (a .0)) → GoodQuestion (network (now (a .0))) (a .1 .0)
     → (r .judged ≡ Refused NoRoute) ↔ ((t : List Leg) → Joins (network (now (a .0))) (a .1 .0) t → ⊥)
@@ -95,3 +105,16 @@ one-reading κs a r s e e′ p q = (p .0 ∙ sym (q .0), p .1 ∙ sym (q .1))
 
 pub one-writing : (κs : _) (a : _) (r s : Written) (e e′ : _) → write.Post κs a r e → write.Post κs a s e′ → (r ≡ s) × (now (e .1 .0) ≡ now (e′ .1 .0))
 one-writing κs a r s e e′ p q = (p .0 ∙ sym (q .0), p .1 ∙ sym (q .1))
+
+-- the round trips that are run
+pub one-sheet-return : (κs : _) (a : _) (r s : Bool) (e e′ : _) → sheet_returns.Post κs a r e → sheet_returns.Post κs a s e′
+    → (r ≡ s) × (now (e .1 .0) ≡ now (e′ .1 .0)) × (now (e .1 .1 .0) ≡ now (e′ .1 .1 .0))
+one-sheet-return κs a r s e e′ p q =
+    let same = p .0 ∙ sym (q .0) in
+    (same, p .1 .0 ∙ sym (q .1 .0), p .1 .1 ∙ ap (λ (b : Bool). choose b (filled (now (a .0)) (now (a .1 .1 .0))) (now (a .1 .1 .0))) same ∙ sym (q .1 .1))
+
+pub one-book-return : (κs : _) (a : _) (r s : Bool) (e e′ : _) → book_returns.Post κs a r e → book_returns.Post κs a s e′
+    → (r ≡ s) × (now (e .1 .0) ≡ now (e′ .1 .0)) × (now (e .1 .1 .0) ≡ now (e′ .1 .1 .0))
+one-book-return κs a r s e e′ p q =
+    let same = p .0 ∙ sym (q .0) in
+    (same, p .1 .0 ∙ sym (q .1 .0), p .1 .1 ∙ ap (λ (b : Bool). choose b (filled (now (a .0)) (now (a .1 .1 .0))) (now (a .1 .1 .0))) same ∙ sym (q .1 .1))
