@@ -2,7 +2,7 @@
 -- a question has one answer.
 use Prim.Native.Nat.{ℕ}
 use mathlib.Core.Path.{_≡_, refl, sym, ap, _∙_}
-use mathlib.Core.Logic.{_⊎_, inl, inr, ⊎-elim}
+use mathlib.Core.Logic.{_⊎_, inl, inr}
 use mathlib.Core.List.{List, [], _∷_}
 use native.Mathlib.Omega.{arith}
 use lib.ListN.{length}
@@ -19,7 +19,6 @@ use Rattle.outline.specs.Judging.{bookCheck}
 use Rattle.outline.specs.Routes.{bytesOf}
 use Rattle.outline.specs.Price.{fareOf, answerOf}
 use Rattle.outline.specs.Questions.{NoLater, Cheapest, Answered, AnswerTo, Asked, questionCheck}
-use Rattle.laws.proofs.Tests.{compared}
 use Rattle.laws.proofs.Lexical.{lex-same, lex-then, lex-only, lex-total}
 
 same-ride : (p q : Leg) → p .company ≡ q .company → p .boarding ≡ q .boarding → p .alighting ≡ q .alighting → p ≡ q
@@ -33,31 +32,25 @@ bytes-only [] (q ∷ t) e = absurd (let z : _≡_ {A = ℕ} 0 1 = cc in omega ar
 bytes-only (p ∷ s) [] e = absurd (let z : _≡_ {A = ℕ} 0 1 = cc in omega arith)
 bytes-only (p ∷ s) (q ∷ t) e = let r = bytes-only s t (cc) in let h = same-ride p q (cc) (cc) (cc) in cc
 
+-- the order is that of one list of numbers: the fare, the number of rides, the bytes
+abbrev rank : Network → List Leg → List ℕ
+rank N s = fareOf N s ∷ length s ∷ bytesOf s
+
 pub earlier-same : (N : Network) (s : List Leg) → NoLater N s s
-earlier-same N s = inr (refl, inr (refl, lex-same (bytesOf s)))
+unfolding LexLe
+earlier-same N s = lex-same (rank N s)
 
 pub earlier-then : (N : Network) (s t v : List Leg) → NoLater N s t → NoLater N t v → NoLater N s v
 unfolding LexLe
-earlier-then N s t v (inl a) (inl b) = inl (omega arith)
-earlier-then N s t v (inl a) (inr b) = inl (omega arith)
-earlier-then N s t v (inr a) (inl b) = inl (omega arith)
-earlier-then N s t v (inr a) (inr b) = inr (a .0 ∙ b .0, lex-then (length s ∷ bytesOf s) (length t ∷ bytesOf t) (length v ∷ bytesOf v) (a .1) (b .1))
+earlier-then N s t v a b = lex-then (rank N s) (rank N t) (rank N v) a b
 
 pub earlier-only : (N : Network) (s t : List Leg) → NoLater N s t → NoLater N t s → s ≡ t
 unfolding LexLe
-earlier-only N s t (inl a) (inl b) = absurd (omega arith)
-earlier-only N s t (inl a) (inr b) = absurd (omega arith)
-earlier-only N s t (inr a) (inl b) = absurd (omega arith)
-earlier-only N s t (inr a) (inr b) =
-    let e = lex-only (length s ∷ bytesOf s) (length t ∷ bytesOf t) (a .1) (b .1) in
-    bytes-only s t (cc)
+earlier-only N s t a b = let e = lex-only (rank N s) (rank N t) a b in bytes-only s t (cc)
 
 pub earlier-total : (N : Network) (s t : List Leg) → NoLater N s t ⊎ NoLater N t s
 unfolding LexLe
-earlier-total N s t =
-    ⊎-elim (λ h. inl (inl h))
-    (⊎-elim (λ e. ⊎-elim (λ h. inl (inr (e, h))) (λ h. inr (inr (sym e, h))) (lex-total (length s ∷ bytesOf s) (length t ∷ bytesOf t))) (λ h. inr (inl h)))
-    (compared (fareOf N s) (fareOf N t))
+earlier-total N s t = lex-total (rank N s) (rank N t)
 
 pub one-cheapest : (N : Network) (q : Question) (s t : List Leg) → Cheapest N q s → Cheapest N q t → s ≡ t
 one-cheapest N q s t a b = earlier-only N s t (a .first t (b .joins)) (b .first s (a .joins))
