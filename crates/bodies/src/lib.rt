@@ -6,7 +6,7 @@ ghost use lib.ListN.{length, getD};
 ghost use Rattle.outline.specs.Tests.{inOrder};
 ghost use Rattle.outline.specs.Book.{companyLength, linkLength, ruleLength};
 ghost use Rattle.outline.specs.Sheet.{tableIn, tableNumbers, linkNumbers, linkIn, ruleNumbers, ruleIn};
-ghost use Rattle.outline.specs.Writing.{twoBytes, bytesOf, tableBytes, linkBytes, ruleBytes};
+ghost use Rattle.outline.specs.Writing.{twoBytes, bytesOfWords, tableBytes, linkBytes, ruleBytes};
 ghost use Rattle.outline.specs.Lending.{filled};
 ghost use Rattle.bodies.specs.Bytes.{LinkBytes, RuleBytes};
 
@@ -77,7 +77,7 @@ pub fn put_entry(offset: usize, long: usize, book: &mut [u8])
 // Numbers, each in two bytes.
 fn put_words(from: &[u16], book: &mut [u8])
     requires { ⌜ 2 * length (now from) ≤ length (now book) ⌝ }
-    ensures { λ _. ⌜ now (book .exit) ≡ filled (bytesOf (now (from .entry))) (now (book .entry)) ⌝ }
+    ensures { λ _. ⌜ now (book .exit) ≡ filled (bytesOfWords (now (from .entry))) (now (book .entry)) ⌝ }
 {
     let mut i: usize = 0;
     while i < from.len() {

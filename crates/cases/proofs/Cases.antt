@@ -1,6 +1,6 @@
 -- Every case of the table holds: computed from the definitions.
 use mathlib.Core.Path.{refl}
-use Rattle.outline.specs.Tests.{both, either, choose, within, allBelow, someBelow, listOf}
+use Rattle.outline.specs.Tests.{both, either, choose, within, allBelow, someBelow, listOf, inOrder}
 use Rattle.outline.specs.Refusals.{demand, _andThen_, firstBelow}
 use Rattle.outline.specs.Fares.{fareAt, inMap}
 use Rattle.outline.specs.Network.{entryOf, networkOf, sameStation, leads, joins, orElse, joinedBelow, linkBetween}
@@ -12,9 +12,9 @@ use Rattle.outline.specs.Selections.{yen, total}
 use Rattle.outline.specs.Choosing.{orRule, bestRule, rather, withRun, orRun, bestFrom}
 use Rattle.outline.specs.Price.{runsOf, fareWith, fareOf, belongs, paidBy, placeAt, answerWith, answerOf, refusedAnswer, answerTo, priceOf}
 use Rattle.outline.specs.Questions.{known, questionCheck}
-use Rattle.outline.specs.Listing.{listsOf, those, ofEach, rides, longer, routesOf, routesWithin, joinsThem, lexLe, noLater, firstOf, answerAmong, foundOf, askedOf}
+use Rattle.outline.specs.Listing.{those, ofEach, rides, longer, routesOf, routesWithin, joinsThem, lexLe, noLater, firstOf, answerAmong, foundOf, askedOf}
 use Rattle.cases.specs.Table.{answered, bytesIn, outcomeOf, AllHold, table}
 
 pub all-hold : AllHold table
-unfolding AllHold answered bytesIn outcomeOf bytesOf known questionCheck listsOf those ofEach rides longer routesOf routesWithin joinsThem lexLe noLater firstOf answerAmong foundOf askedOf both either choose within allBelow someBelow listOf demand _andThen_ firstBelow fareAt inMap entryOf networkOf sameStation leads joins orElse joinedBelow linkBetween wordAt offsetOf lengthOf endBefore bodyOf words tableOf linkOf ruleOf faresOf network headerCheck companyCheck listCheck endCheck contentsCheck goodEntry entryCheck rowCheck tableCheck tablesCheck goodLink sameLink repeated linkCheck goodCompany goodMap goodMaps goodRule ruleCheck faresCheck entryOffset bookCheck linkAfter routeOf isSold exists isLink reached met meets repeats goodNext rideCheck goodLength routeCheck yenOf sumOf sameCompanies permits permitted unless reasonOf earns yen total orRule bestRule rather withRun orRun bestFrom runsOf fareWith fareOf belongs paidBy placeAt answerWith answerOf refusedAnswer answerTo priceOf
+unfolding AllHold answered bytesIn outcomeOf bytesOf known questionCheck inOrder those ofEach rides longer routesOf routesWithin joinsThem lexLe noLater firstOf answerAmong foundOf askedOf both either choose within allBelow someBelow listOf demand _andThen_ firstBelow fareAt inMap entryOf networkOf sameStation leads joins orElse joinedBelow linkBetween wordAt offsetOf lengthOf endBefore bodyOf words tableOf linkOf ruleOf faresOf network headerCheck companyCheck listCheck endCheck contentsCheck goodEntry entryCheck rowCheck tableCheck tablesCheck goodLink sameLink repeated linkCheck goodCompany goodMap goodMaps goodRule ruleCheck faresCheck entryOffset bookCheck linkAfter routeOf isSold exists isLink reached met meets repeats goodNext rideCheck goodLength routeCheck yenOf sumOf sameCompanies permits permitted unless reasonOf earns yen total orRule bestRule rather withRun orRun bestFrom runsOf fareWith fareOf belongs paidBy placeAt answerWith answerOf refusedAnswer answerTo priceOf
 all-hold = (refl, (refl, (refl, (refl, (refl, (refl, (refl, (refl, (refl, (refl, (refl, (refl, (refl, (refl, (refl, (refl, (refl, tt)))))))))))))))))

@@ -5,8 +5,8 @@ use mathlib.Core.Bool.{Bool, true, false}
 use mathlib.Core.Logic.{_⊎_, inl, inr, ⊎-elim}
 use mathlib.Core.List.{List, [], _∷_, _++_}
 use native.Mathlib.Nat.{le-of-suc-le-suc, not-suc-le-zero, eq-or-lt-of-le}
-use Rattle.outline.specs.Tests.{choose, listOf}
-use Rattle.outline.specs.Listing.{listsOf, those, ofEach}
+use Rattle.outline.specs.Tests.{choose, listOf, inOrder}
+use Rattle.outline.specs.Listing.{those, ofEach}
 
 -- x is an item of the list
 unfoldable pub In : {A : Type 0} → A → List A → Type 0
@@ -65,12 +65,12 @@ of-each f y (z ∷ s) h =
 
 -- lists by their numbers
 
-pub in-lists : {A : Type 0} (f : ℕ → List A) (x : A) (n k : ℕ) → k < n → In x (f k) → In x (listsOf f n)
-unfolding listsOf
+pub in-lists : {A : Type 0} (f : ℕ → List A) (x : A) (n k : ℕ) → k < n → In x (f k) → In x (inOrder f n)
+unfolding inOrder
 in-lists f x zero k h i = absurd (not-suc-le-zero h)
 in-lists f x (suc n) k h i =
-    ⊎-elim (λ e. in-second x (listsOf f n) (f n) (subst (λ (j : ℕ). In x (f j)) e i))
-    (λ l. in-first x (listsOf f n) (f n) (in-lists f x n k l i))
+    ⊎-elim (λ e. in-second x (inOrder f n) (f n) (subst (λ (j : ℕ). In x (f j)) e i))
+    (λ l. in-first x (inOrder f n) (f n) (in-lists f x n k l i))
     (eq-or-lt-of-le (le-of-suc-le-suc h))
 
 pub in-list : {A : Type 0} (f : ℕ → A) (n k : ℕ) → k < n → In (f k) (listOf f n)

@@ -15,7 +15,7 @@ use Rattle.outline.specs.declared.Question.{Question}
 use Rattle.outline.specs.declared.Answer.{Answer}
 use Rattle.outline.specs.declared.Judged.{Judged}
 use Rattle.outline.specs.declared.Judged.the-variants.{Good, Refused}
-use Rattle.outline.specs.Tests.{both, either, choose, Within, listOf}
+use Rattle.outline.specs.Tests.{both, either, choose, Within, listOf, inOrder}
 use Rattle.outline.specs.Refusals.{_andThen_}
 use Rattle.outline.specs.Lexical.{LexLe}
 use Rattle.outline.specs.Network.{Network}
@@ -24,7 +24,7 @@ use Rattle.outline.specs.Judging.{bookCheck}
 use Rattle.outline.specs.Routes.{Exists, rideAt, goodNext, bytesOf}
 use Rattle.outline.specs.Price.{fareOf, answerTo}
 use Rattle.outline.specs.Questions.{Joins, NoLater, Answered, AnswerTo, Asked, questionCheck}
-use Rattle.outline.specs.Listing.{listsOf, those, ride, rides, longer, routesOf, routesWithin, joinsThem, lexLe, noLater, firstOf, answerAmong, foundOf, askedOf}
+use Rattle.outline.specs.Listing.{those, ride, rides, longer, routesOf, routesWithin, joinsThem, lexLe, noLater, firstOf, answerAmong, foundOf, askedOf}
 use Rattle.outline.specs.Numbers.{mostRides}
 use Rattle.laws.proofs.Firsts.{demand-good, then-good}
 use Rattle.laws.proofs.Tests.{within-true, true-not-false, both-true, both-holds, either-true, either-first, either-second}
@@ -41,7 +41,7 @@ use Rattle.cheapest.proofs.Earlier.{earlier-same, earlier-then, earlier
 ride-in : (N : Network) (l : Leg) → Exists N l → In l (rides N)
 unfolding rides
 ride-in N l e =
-    in-lists (λ (c : ℕ). listsOf (λ (i : ℕ). listOf (ride c i) (N .stations c)) (N .stations c)) l (N .companies) (l .company) (e .company)
+    in-lists (λ (c : ℕ). inOrder (λ (i : ℕ). listOf (ride c i) (N .stations c)) (N .stations c)) l (N .companies) (l .company) (e .company)
     (in-lists (λ (i : ℕ). listOf (ride (l .company) i) (N .stations (l .company))) l (N .stations (l .company)) (l .boarding) (e .boarding)
     (in-list (ride (l .company) (l .boarding)) (N .stations (l .company)) (l .alighting) (e .alighting)))
 

@@ -9,7 +9,7 @@ use Rattle.outline.specs.declared.Leg.{Leg}
 use Rattle.outline.specs.declared.Question.{Question}
 use Rattle.outline.specs.declared.Answer.{Answer}
 use Rattle.outline.specs.declared.Refusal.the-variants.{NoRoute}
-use Rattle.outline.specs.Tests.{both, either, choose, listOf}
+use Rattle.outline.specs.Tests.{both, either, choose, listOf, inOrder}
 use Rattle.outline.specs.Refusals.{_andThen_}
 use Rattle.outline.specs.Network.{Network, sameStation}
 use Rattle.outline.specs.Book.{network}
@@ -17,11 +17,6 @@ use Rattle.outline.specs.Judging.{bookCheck}
 use Rattle.outline.specs.Routes.{goodNext, bytesOf}
 use Rattle.outline.specs.Price.{fareOf, answerOf, answerTo, refusedAnswer}
 use Rattle.outline.specs.Questions.{startOf, endOf, questionCheck}
-
--- the lists of f 0, f 1, .., n of them, one after the other
-unfoldable pub listsOf {ℓ} : {A : Type ℓ} → (ℕ → List A) → ℕ → List A
-listsOf f zero = []
-listsOf f (suc n) = listsOf f n ++ f n
 
 -- those that have f
 unfoldable pub those {ℓ} : {A : Type ℓ} → (A → Bool) → List A → List A
@@ -38,7 +33,7 @@ ride company boarding alighting = record { company = company; boarding = boardin
 
 -- from each station of each company to each, sold or not
 unfoldable pub rides : Network → List Leg
-rides N = listsOf (λ c. listsOf (λ i. listOf (ride c i) (N .stations c)) (N .stations c)) (N .companies)
+rides N = inOrder (λ c. inOrder (λ i. listOf (ride c i) (N .stations c)) (N .stations c)) (N .companies)
 
 -- a route with each ride after it that may come next
 unfoldable pub longer : Network → List Leg → List (List Leg)

@@ -46,6 +46,6 @@ abbrev pub part : List ℕ → ℕ → ℕ → List ℕ
 part s from n = take n (drop from s)
 
 -- f 0, f 1, .., n of them, each after the one before, as one list
-unfoldable pub inOrder : (ℕ → List ℕ) → ℕ → List ℕ
+unfoldable pub inOrder {ℓ} : {A : Type ℓ} → (ℕ → List A) → ℕ → List A
 inOrder f zero = []
 inOrder f (suc n) = inOrder f n ++ f n

@@ -11,13 +11,13 @@ use Rattle.outline.specs.Fares.{Table, Rule, Fares, tableAt, linkAt, rul
 unfoldable pub twoBytes : ℕ → List ℕ
 twoBytes x = x % 256 ∷ x / 256 ∷ []
 
-unfoldable pub bytesOf : List ℕ → List ℕ
-bytesOf [] = []
-bytesOf (x ∷ rest) = twoBytes x ++ bytesOf rest
+unfoldable pub bytesOfWords : List ℕ → List ℕ
+bytesOfWords [] = []
+bytesOfWords (x ∷ rest) = twoBytes x ++ bytesOfWords rest
 
 -- "Company body: one byte n, then n × n two-byte entries, row by row"
 unfoldable pub tableBytes : Table → List ℕ
-tableBytes t = t .stations ∷ bytesOf (t .fares)
+tableBytes t = t .stations ∷ bytesOfWords (t .fares)
 
 -- "Link, four bytes: company, station, company, station."
 unfoldable pub linkBytes : Link → List ℕ

@@ -7,7 +7,7 @@ use lib.ListN.{length, getD, take, drop, length-drop, take-append-drop}
 use lib.Seq.{take-at, drop-at, getD-at, take-append-le, drop-append-le, take-length, drop-drop, getD-drop, ext-getD}
 use Rattle.outline.specs.Tests.{listOf, part}
 use Rattle.outline.specs.Book.{wordAt, words}
-use Rattle.outline.specs.Writing.{twoBytes, bytesOf}
+use Rattle.outline.specs.Writing.{twoBytes, bytesOfWords}
 use Rattle.laws.proofs.Tests.{getD-listOf, length-listOf}
 use Rattle.laws.proofs.Reading.{part-one}
 
@@ -56,13 +56,13 @@ listed f xs d n e h =
 
 -- ---- two-byte numbers
 
-pub words-bytes : (xs : List ℕ) → words (bytesOf xs) ≡ xs
-unfolding words bytesOf twoBytes
+pub words-bytes : (xs : List ℕ) → words (bytesOfWords xs) ≡ xs
+unfolding words bytesOfWords twoBytes
 words-bytes [] = refl
 words-bytes (x ∷ xs) = let e : x % 256 + 256 * (x / 256) ≡ x = omega arith in ap₂ (λ (a : ℕ) (t : List ℕ). a ∷ t) e (words-bytes xs)
 
-pub bytes-words : (b : List ℕ) (n : ℕ) → length b ≡ 2 * n → ((i : ℕ) → getD b i 0 < 256) → bytesOf (words b) ≡ b
-unfolding words bytesOf twoBytes
+pub bytes-words : (b : List ℕ) (n : ℕ) → length b ≡ 2 * n → ((i : ℕ) → getD b i 0 < 256) → bytesOfWords (words b) ≡ b
+unfolding words bytesOfWords twoBytes
 bytes-words [] n e h = refl
 bytes-words (x ∷ []) n e h = absurd (omega arith)
 bytes-words (x ∷ y ∷ t) zero e h = absurd (omega arith)

@@ -7,7 +7,7 @@ use lib.ListN.{length, getD, length-set, length-take, length-drop}
 use mathlib.Core.List.{[], _∷_}
 use Rattle.outline.specs.Lending.{filled}
 use Rattle.outline.specs.Sheet.{tableIn}
-use Rattle.outline.specs.Writing.{bytesOf, tableBytes}
+use Rattle.outline.specs.Writing.{bytesOfWords, tableBytes}
 use Rattle.filling.proofs.Filled.{one-store, filled-lent, length-filled}
 use Rattle.filling.proofs.Bytes.{length-bytes}
 use Rattle.filling.proofs.Sizes.{table-bytes-length}
@@ -55,7 +55,7 @@ returns c =
     let s = now (a .args .sheet) in
     let long = square-in s (a .args .at) (a .pre .0 .1) in
     let first = one-store (c .before .before .before .before .before .byte .result) (now (a .args .book)) (omega (arith, a .pre .1)) ∙ ap (λ (x : ℕ). filled (x ∷ []) (now (a .args .book))) (c .before .before .before .before .before .byte .ensures) in
-    filled-lent (getD s (a .args .at) 0 ∷ []) (bytesOf (tableIn s (a .args .at) .fares)) (now (a .args .book)) _ _ 1 first refl (omega (arith, a .pre .1, long, length-bytes (tableIn s (a .args .at) .fares))) (rw (c .before .before .before .before .fares .ensures) at (c .before .before .put-words .ensures))
+    filled-lent (getD s (a .args .at) 0 ∷ []) (bytesOfWords (tableIn s (a .args .at) .fares)) (now (a .args .book)) _ _ 1 first refl (omega (arith, a .pre .1, long, length-bytes (tableIn s (a .args .at) .fares))) (rw (c .before .before .before .before .fares .ensures) at (c .before .before .put-words .ensures))
 
 same-length : tie.Need-same-length
 unfolding tableIn

@@ -8,20 +8,20 @@ use lib.ListN.{length, getD, take, length-take, length-drop}
 use mathlib.Core.List.{List}
 use Rattle.outline.specs.Lending.{filled}
 use lib.Seq.{length-take-le}
-use Rattle.outline.specs.Writing.{twoBytes, bytesOf}
+use Rattle.outline.specs.Writing.{twoBytes, bytesOfWords}
 use Rattle.filling.proofs.Filled.{filled-none, filled-lent, length-filled}
 use Rattle.filling.proofs.Bytes.{length-bytes, bytes-next, bytes-end}
 use Rattle.bodies.proofs.put_words.Statement.{statement}
 use Rattle.bodies.proofs.put_words.Tie as tie
 
 abbrev Inv-loop : tie.InvT-loop
-Inv-loop from book₀ i₀ book i = (i ≤ length from) × (length book ≡ length book₀) × (book ≡ filled (bytesOf (take i from)) book₀)
+Inv-loop from book₀ i₀ book i = (i ≤ length from) × (length book ≡ length book₀) × (book ≡ filled (bytesOfWords (take i from)) book₀)
 
 abbrev μ-loop : tie.MeasureT-loop
 μ-loop from book₀ i₀ book i = length from - i
 
 loop-holds : tie.Need-loop-holds Inv-loop μ-loop
-unfolding bytesOf
+unfolding bytesOfWords
 loop-holds c = (search needs, refl, filled-none _)
 
 mul-to : tie.Need-mul-to Inv-loop μ-loop
@@ -58,9 +58,9 @@ loop-again c =
     let from = now (a .args .from) in
     let i = c .before .before .before .before .before .before .loop .i in
     let h = c .before .before .before .before .before .loop-test .taken in
-    let long : length (bytesOf (take i from)) ≡ 2 * i = length-bytes (take i from) ∙ ap (λ (n : ℕ). 2 * n) (length-take-le i from (omega arith)) in
+    let long : length (bytesOfWords (take i from)) ≡ 2 * i = length-bytes (take i from) ∙ ap (λ (n : ℕ). 2 * n) (length-take-le i from (omega arith)) in
     let two : length (twoBytes (getD from i 0)) ≡ 2 = refl in
-    let same = filled-lent (bytesOf (take i from)) (twoBytes (getD from i 0)) (now (a .args .book)) _ _ (2 * i) (c .before .before .before .before .before .before .loop .inv .2) (sym long) (omega (arith, a .pre)) (c .before .before .put-word .ensures) ∙ ap (λ (x : List ℕ). filled x (now (a .args .book))) (sym (bytes-next from i h)) in
+    let same = filled-lent (bytesOfWords (take i from)) (twoBytes (getD from i 0)) (now (a .args .book)) _ _ (2 * i) (c .before .before .before .before .before .before .loop .inv .2) (sym long) (omega (arith, a .pre)) (c .before .before .put-word .ensures) ∙ ap (λ (x : List ℕ). filled x (now (a .args .book))) (sym (bytes-next from i h)) in
     let all = length-bytes (take (i + 1) from) ∙ ap (λ (n : ℕ). 2 * n) (length-take-le (i + 1) from (omega arith)) in
     (search needs, ap length same ∙ length-filled _ (now (a .args .book)) (omega (arith, a .pre)), same)
 
