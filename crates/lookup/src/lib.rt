@@ -10,7 +10,7 @@ ghost use Prim.Native.Nat.{_*_, _<_};
 ghost use lib.ListN.{length};
 ghost use Rattle.outline.specs.Fares.{inMap};
 ghost use Rattle.outline.specs.Network.{entryOf, sameStation, leads, joins, linkBetween};
-ghost use Rattle.outline.specs.Book.{bodyOf, rulesEntry, network};
+ghost use Rattle.outline.specs.Book.{bodyOf, linksEntry, rulesEntry, network};
 ghost use Rattle.outline.specs.Valid.{LaidOut};
 
 pub fn companies(book: &[u8]) -> u8
@@ -52,11 +52,19 @@ pub fn links(book: &[u8]) -> u8
     layout::links(book)
 }
 
+// The body of the links.
+pub fn links_body(book: &[u8]) -> &[u8]
+    requires { ⌜ LaidOut (now book) ⌝ }
+    ensures { λ r. ⌜ now r ≡ bodyOf (now (book .entry)) (linksEntry (now (book .entry))) ⌝ }
+{
+    layout::body(book, wide(layout::companies(book)))
+}
+
 pub fn link(book: &[u8], k: u8) -> Link
     requires { ⌜ LaidOut (now book) × (k < network (now book) .links) ⌝ }
     ensures { λ r. ⌜ r ≡ network (now (book .entry)) .link k ⌝ }
 {
-    layout::link(layout::body(book, wide(layout::companies(book))), k)
+    layout::link(links_body(book), k)
 }
 
 pub fn same_station(x: Station, y: Station) -> bool

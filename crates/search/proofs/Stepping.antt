@@ -1,11 +1,14 @@
 -- What each step of the search shows: a ride that is good or not, and the routes that go on from it.
 use Prim.Native.Nat.{ℕ, _+_, _-_, _≤_, _<_}
 use mathlib.Core.Path.{_≡_, refl, sym, ap, subst, _∙_}
-use mathlib.Core.Bool.{true, false}
+use mathlib.Core.Bool.{Bool, true, false}
 use mathlib.Core.Logic.{_⊎_, ⊎-elim}
 use mathlib.Core.List.{List, [], _∷_, _++_}
 use native.Mathlib.Omega.{arith}
+use native.Mathlib.Nat.{eq-or-lt-of-le}
 use lib.ListN.{length}
+use lib.Dec.{ltb, eqb}
+use borrow.Author.Tests.{eq-eqb, ltb-true, ltb-false}
 use Rattle.outline.specs.declared.Station.{Station}
 use Rattle.outline.specs.declared.Leg.{Leg}
 use Rattle.outline.specs.declared.Joined.the-variants.{ByLink}
@@ -13,12 +16,12 @@ use Rattle.outline.specs.Network.{Network, joins}
 use Rattle.outline.specs.Routes.{alightedAt, rideAt, isLink}
 use Rattle.outline.specs.declared.Question.{Question}
 use Rattle.outline.specs.Numbers.{mostRides}
-use Rattle.outline.specs.Tests.{Within}
+use Rattle.outline.specs.Tests.{either, Within}
 use Rattle.outline.specs.Book.{network}
 use Rattle.outline.specs.Valid.{ValidBook}
 use Rattle.outline.specs.Questions.{Joins, Cheapest}
 use Rattle.laws.specs.Rides.{AllGood}
-use Rattle.laws.proofs.Tests.{true-not-false}
+use Rattle.laws.proofs.Tests.{true-not-false, both-holds, either-first, either-second}
 use Rattle.laws.proofs.Order.{GoodLinks}
 use Rattle.laws.proofs.Book.{found-link, by-link}
 use Rattle.laws.proofs.Routes.{reached-is}
@@ -32,7 +35,7 @@ use Rattle.cheapest.proofs.Walking.{longer, final-ride, direct-from, over-from,
 use Rattle.best.specs.declared.Best.{Best}
 use Rattle.best.specs.Kept.{Sound, Improves}
 use Rattle.best.proofs.Improving.{improves-none, improves-same, improves-then}
-use Rattle.search.specs.Steps.{Arrived, Toward, Alighted, Ready, beyond}
+use Rattle.search.specs.Steps.{Arrived, Toward, Alighted, Ready, beyond, leadsOn, NextLink}
 
 -- ---- one ride
 
@@ -118,6 +121,37 @@ module _ (N : Network) (goal : Station) (path : Route) (x : Station) (left k : �
 -- over the link, the far end is where the path has come by it
 pub link-walked : (N : Network) (p : List Leg) (k : ℕ) → GoodLinks N → Alighted N p k → Arrived N p (beyond N p k) k
 link-walked N p k good a some = by-link N (alightedAt (rideAt p (length p - 1))) (beyond N p k) good k .1 (a .known, subst (λ (y : Station). joins (N .link k) y (beyond N p k) ≡ true) (sym (a .there)) (near-joins-far (N .link k) (rideAt p (length p - 1) .company)))
+
+-- ---- links that lead on
+
+pub passed-more : (P : ℕ → Type 0) (from k : ℕ) → ((j : ℕ) → from ≤ j → j < k → P j) → P k → (j : ℕ) → from ≤ j → j < k + 1 → P j
+passed-more P from k p q j h l =
+    let le : j ≤ k = omega arith in
+    ⊎-elim (λ e. subst P (sym e) q) (λ m. p j h m) (eq-or-lt-of-le le)
+
+module _ (N : Network) (goal : Station) (p : List Leg) (x : Station) (left : ℕ) (links : GoodLinks N) (two : 2 ≤ left) where
+  -- a link that a route goes over leads on
+  over-leads : (k : ℕ) (R : List Leg) → Over N goal (left - 1) p x k R → leadsOn (N .link k) (x .company) goal left ≡ true
+  unfolding leadsOn
+  over-leads k R o = both-holds _ _ (eq-eqb _ _ (sym (o .company))) (go (ltb 2 left) refl)
+    where
+      go : (t : Bool) → ltb 2 left ≡ t → either t (eqb (farEnd (N .link k) (x .company) .company) (goal .company)) ≡ true
+      go true e = either-first _ _ refl
+      go false e =
+          let few = ltb-false 2 left e in
+          either-second _ _ (eq-eqb _ _ (⊎-elim (λ d. d .company) (λ s. absurd (let h = s .holds .onward in omega (arith, h .more, h .few))) (from-splits N goal _ _ R (left - 1) links (o .onward))))
+
+  -- no route goes over the links that are passed
+  pub links-passed : {b c : Best} (from r : ℕ) → NextLink N (x .company) goal left from r → Improves N b c (λ R. Some from (λ k. Over N goal (left - 1) p x k R))
+      → Improves N b c (λ R. Some r (λ k. Over N goal (left - 1) p x k R))
+  links-passed from r next i =
+      improves-same N (λ R. Some r (λ k. Over N goal (left - 1) p x k R)) i
+      (λ R s. record { at = s .at; below = omega (arith, s .below, next .later); holds = s .holds })
+      (λ R s. record { at = s .at; below = before R s (ltb (s .at) from) refl; holds = s .holds })
+    where
+      before : (R : List Leg) (s : Some r (λ k. Over N goal (left - 1) p x k R)) (t : Bool) → ltb (s .at) from ≡ t → s .at < from
+      before R s true e = ltb-true _ _ e
+      before R s false e = absurd (true-not-false (sym (over-leads (s .at) R (s .holds)) ∙ next .passed (s .at) (ltb-false _ _ e) (s .below)))
 
 -- ---- all of a step by rides
 

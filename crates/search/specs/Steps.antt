@@ -1,13 +1,16 @@
 -- The steps of the search, and the routes that each goes through.
 use Prim.Native.Nat.{ℕ, _+_, _-_, _≤_, _<_}
 use mathlib.Core.Path.{_≡_}
-use mathlib.Core.Bool.{true, false}
+use mathlib.Core.Bool.{Bool, true, false}
 use mathlib.Core.List.{List, [], _∷_, _++_}
 use lib.ListN.{length}
+use lib.Dec.{ltb, eqb}
 use Rattle.outline.specs.declared.Station.{Station}
+use Rattle.outline.specs.declared.Link.{Link}
 use Rattle.outline.specs.declared.Leg.{Leg}
 use Rattle.outline.specs.declared.Joined.the-variants.{ByLink}
 use Rattle.outline.specs.Numbers.{mostRides}
+use Rattle.outline.specs.Tests.{both, either}
 use Rattle.outline.specs.Network.{Network, linkBetween}
 use Rattle.outline.specs.Valid.{ValidBook}
 use Rattle.outline.specs.Book.{network}
@@ -50,3 +53,14 @@ pub record Ready (b : List ℕ) (path : Route) (left : ℕ) (best : Best) : Type
   pub some : 1 ≤ left
   pub room : path .count + left ≤ mostRides
   pub sound : Sound (network b) best
+
+-- link l has an end in the company and, where only one ride may follow it, the other end in the goal's company
+unfoldable pub leadsOn : Link → ℕ → Station → ℕ → Bool
+leadsOn l company goal left = both (eqb (nearEnd l company .company) company) (either (ltb 2 left) (eqb (farEnd l company .company) (goal .company)))
+
+-- r is the first link from `from` on that leads on, or the number of links
+pub record NextLink (N : Network) (company : ℕ) (goal : Station) (left from r : ℕ) : Type 0 where
+  pub later : from ≤ r
+  pub few : r ≤ N .links
+  pub passed : (k : ℕ) → from ≤ k → k < r → leadsOn (N .link k) company goal left ≡ false
+  pub stops : r < N .links → leadsOn (N .link r) company goal left ≡ true

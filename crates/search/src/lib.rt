@@ -12,7 +12,7 @@ use price::answers;
 use routes::Route;
 use routes::Step;
 ghost use mathlib.Core.Path.{_≡_};
-ghost use Prim.Native.Nat.{_+_, _-_, _<_};
+ghost use Prim.Native.Nat.{_+_, _-_, _≤_, _<_};
 ghost use mathlib.Core.Bool.{false};
 ghost use Rattle.outline.specs.Book.{network};
 ghost use Rattle.outline.specs.Valid.{LaidOut, ValidBook};
@@ -21,7 +21,7 @@ ghost use Rattle.outline.specs.Questions.{questionCheck, Answered, Asked};
 ghost use Rattle.routes.specs.Held.{ridesOf, Sized, Held};
 ghost use Rattle.cheapest.specs.Onward.{From, Direct, nearEnd, farEnd};
 ghost use Rattle.best.specs.Kept.{Improves};
-ghost use Rattle.search.specs.Steps.{Ready, Arrived, Toward, Alighted, beyond};
+ghost use Rattle.search.specs.Steps.{Ready, Arrived, Toward, Alighted, beyond, leadsOn, NextLink};
 
 fn near_end(l: Link, company: u8) -> Station
     ensures { λ r. ⌜ r ≡ nearEnd l company ⌝ }
@@ -94,6 +94,38 @@ fn to_link(book: &[u8], path: Route, at: Station, link: u8, k: u8) -> Step
     )
 }
 
+// Whether a link has an end in the company and, where only one ride may follow it, the other end in the goal's company.
+fn leads_on(l: Link, company: u8, goal: Station, left: usize) -> bool
+    ensures { λ r. ⌜ r ≡ leadsOn l company goal left ⌝ }
+{
+    let near = near_end(l, company);
+    if near.company != company {
+        return false;
+    }
+    if 2 < left {
+        return true;
+    }
+    let far = far_end(l, company);
+    far.company == goal.company
+}
+
+// The first link from `from` on that leads on, or the number of links.
+fn next_link(book: &[u8], company: u8, goal: Station, left: usize, from: u8) -> u8
+    requires { ⌜ LaidOut (now book) × (from ≤ network (now book) .links) ⌝ }
+    ensures { λ r. ⌜ NextLink (network (now (book .entry))) company goal left from r ⌝ }
+{
+    let n = lookup::links(book);
+    let body = lookup::links_body(book);
+    let mut k = from;
+    while k < n {
+        if leads_on(layout::link(body, k), company, goal, left) {
+            return k;
+        }
+        k += 1;
+    }
+    n
+}
+
 // The station at the other end of link k.
 fn over(book: &[u8], path: Route, k: u8) -> Station
     requires { ⌜ LaidOut (now book) × Sized path × Alighted (network (now book)) (ridesOf path) k ⌝ }
@@ -121,13 +153,13 @@ fn by_rides(
         return kept;
     }
     let n = lookup::links(book);
-    let mut k: u8 = 0;
+    let mut k = next_link(book, at.company, goal, left, 0);
     while k < n {
         let step = to_link(book, path, at, link, k);
         if step.good {
             kept = by_links(book, step.route, k, goal, left - 1, kept);
         }
-        k += 1;
+        k = next_link(book, at.company, goal, left, k + 1);
     }
     kept
 }
