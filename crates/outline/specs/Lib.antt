@@ -19,3 +19,4 @@ pub mod Choosing
 pub mod Price
 pub mod Questions
 pub mod Listing
+pub mod Lister

@@ -1,0 +1,17 @@
+-- The lines from a station, as they are put: company by company, station by station.
+use Prim.Native.Nat.{ℕ}
+use mathlib.Core.List.{List, []}
+use Rattle.outline.specs.declared.Station.{Station}
+use Rattle.outline.specs.Tests.{choose, inOrder}
+use Rattle.outline.specs.Network.{Network, sameStation}
+use Rattle.outline.specs.Lister.{stationOf, pairOf, pairLine}
+
+-- the same station twice has no line
+unfoldable pub lineTo : Network → Station → Station → List ℕ
+lineTo N x y = choose (sameStation x y) [] (pairLine N (pairOf x y))
+
+unfoldable pub linesTo : Network → Station → ℕ → List ℕ
+linesTo N x c = inOrder (λ j. lineTo N x (stationOf c j)) (N .stations c)
+
+unfoldable pub linesFrom : Network → Station → List ℕ
+linesFrom N x = inOrder (linesTo N x) (N .companies)
