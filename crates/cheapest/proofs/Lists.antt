@@ -5,13 +5,10 @@ use mathlib.Core.Bool.{Bool, true, false}
 use mathlib.Core.Logic.{_⊎_, inl, inr, ⊎-elim}
 use mathlib.Core.List.{List, [], _∷_, _++_}
 use native.Mathlib.Nat.{le-of-suc-le-suc, not-suc-le-zero, eq-or-lt-of-le}
+use native.Mathlib.Omega.{arith}
 use Rattle.outline.specs.Tests.{choose, listOf, inOrder}
 use Rattle.outline.specs.Listing.{those, ofEach}
-
--- x is an item of the list
-unfoldable pub In : {A : Type 0} → A → List A → Type 0
-In x [] = ⊥
-In x (y ∷ s) = (y ≡ x) ⊎ In x s
+use Rattle.cheapest.specs.Items.{In}
 
 pub in-first : {A : Type 0} (x : A) (s t : List A) → In x s → In x (s ++ t)
 unfolding In
@@ -73,8 +70,20 @@ in-lists f x (suc n) k h i =
     (λ l. in-first x (inOrder f n) (f n) (in-lists f x n k l i))
     (eq-or-lt-of-le (le-of-suc-le-suc h))
 
+pub of-lists : {A : Type 0} (f : ℕ → List A) (x : A) (n : ℕ) → In x (inOrder f n) → (k : ℕ) × (k < n) × In x (f k)
+unfolding In inOrder
+of-lists f x zero h = absurd h
+of-lists f x (suc n) h =
+    ⊎-elim (λ a. let (k, l, i) = of-lists f x n a in (k, omega arith, i)) (λ b. (n, omega arith, b)) (in-either x (inOrder f n) (f n) h)
+
 pub in-list : {A : Type 0} (f : ℕ → A) (n k : ℕ) → k < n → In (f k) (listOf f n)
 unfolding In listOf
 in-list f zero k h = absurd (not-suc-le-zero h)
 in-list f (suc n) zero h = inl refl
 in-list f (suc n) (suc k) h = inr (in-list (λ j. f (suc j)) n k (le-of-suc-le-suc h))
+
+pub of-list : {A : Type 0} (f : ℕ → A) (x : A) (n : ℕ) → In x (listOf f n) → (k : ℕ) × (k < n) × (f k ≡ x)
+unfolding In listOf
+of-list f x zero h = absurd h
+of-list f x (suc n) (inl e) = (zero, omega arith, e)
+of-list f x (suc n) (inr h) = let (k, l, e) = of-list (λ j. f (suc j)) x n h in (suc k, omega arith, e)

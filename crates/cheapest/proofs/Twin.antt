@@ -32,7 +32,8 @@ use Rattle.laws.proofs.Routes.{next-is}
 use Rattle.laws.proofs.Admissible.{admissible-good}
 use Rattle.laws.proofs.Judging.{same-station, same-station-holds}
 use Rattle.laws.specs.Rides.{AllGood}
-use Rattle.cheapest.proofs.Lists.{In, in-first, in-second, in-either, in-those, of-those, in-each, of-each, in-lists, in-list}
+use Rattle.cheapest.specs.Items.{In}
+use Rattle.cheapest.proofs.Lists.{in-first, in-second, in-either, in-those, of-those, in-each, of-each, in-lists, in-list}
 use Rattle.cheapest.proofs.Onward.{good-none, good-more, good-front, one-more}
 use Rattle.cheapest.proofs.Earlier.{earlier-same, earlier-then, earlier-total, one-answer}
 
