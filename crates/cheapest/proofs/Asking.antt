@@ -37,7 +37,7 @@ known-is N x = (
   λ k. both-holds _ _ (lt-ltb _ _ (k .company)) (lt-ltb _ _ (k .number)),
 )
 
-different-is : (x y : Station) → (not (sameStation x y) ≡ true) ↔ (x ≡ y → ⊥)
+pub different-is : (x y : Station) → (not (sameStation x y) ≡ true) ↔ (x ≡ y → ⊥)
 different-is x y = (
   λ t e. true-not-false (sym (same-station-holds x y e) ∙ not-true _ t),
   λ n. ap not (fails (λ t. n (same-station x y t))),
