@@ -10,6 +10,10 @@ use Rattle.outline.specs.Tests.{choose, listOf, inOrder}
 use Rattle.outline.specs.Listing.{those, ofEach}
 use Rattle.cheapest.specs.Items.{In}
 
+pub of-one : {A : Type 0} (x y : A) → In y (x ∷ []) → x ≡ y
+unfolding In
+of-one x y (inl e) = e
+
 pub in-first : {A : Type 0} (x : A) (s t : List A) → In x s → In x (s ++ t)
 unfolding In
 in-first x (y ∷ s) t (inl e) = inl e

@@ -33,7 +33,7 @@ use Rattle.laws.proofs.Admissible.{admissible-good}
 use Rattle.laws.proofs.Judging.{same-station, same-station-holds}
 use Rattle.laws.specs.Rides.{AllGood}
 use Rattle.cheapest.specs.Items.{In}
-use Rattle.cheapest.proofs.Lists.{in-first, in-second, in-either, in-those, of-those, in-each, of-each, in-lists, in-list}
+use Rattle.cheapest.proofs.Lists.{of-one, in-first, in-second, in-either, in-those, of-those, in-each, of-each, in-lists, in-list}
 use Rattle.cheapest.proofs.Onward.{good-none, good-more, good-front, one-more}
 use Rattle.cheapest.proofs.Earlier.{earlier-same, earlier-then, earlier-total, one-answer}
 
@@ -71,7 +71,7 @@ routes-good N (suc n) route h =
     let (l, able, is) = of-each (λ (l : Leg). (p ++ (l ∷ [])) ∷ []) route (those (goodNext N p) (rides N)) next in
     let (long, good) = routes-good N n p listed in
     let g = of-those (goodNext N p) l (rides N) able .1 in
-    let whole : p ++ (l ∷ []) ≡ route = ⊎-elim (λ e. e) (λ n. absurd n) is in
+    let whole : p ++ (l ∷ []) ≡ route = of-one _ route is in
     subst (λ (r : List Leg). (length r ≡ suc n) × AllGood N r) whole (omega (arith, length-append p (l ∷ [])), good-more N p l good g)
 
 pub record Listed (N : Network) (n : ℕ) (route : List Leg) : Type 0 where

@@ -2,7 +2,7 @@
 use Prim.Native.Nat.{ℕ}
 use mathlib.Core.Path.{_≡_, refl, sym, ap, subst}
 use mathlib.Core.Bool.{not}
-use mathlib.Core.Logic.{_↔_, inl, ⊎-elim}
+use mathlib.Core.Logic.{_↔_, inl}
 use mathlib.Core.List.{[], _∷_}
 use native.Mathlib.Omega.{arith}
 use Rattle.outline.specs.declared.Station.{Station}
@@ -14,7 +14,7 @@ use Rattle.outline.specs.Questions.{GoodQuestion}
 use Rattle.outline.specs.Listing.{those}
 use Rattle.outline.specs.Lister.{stationsOf, pairOf, pairsFrom, pairs}
 use Rattle.cheapest.specs.Items.{In}
-use Rattle.cheapest.proofs.Lists.{in-those, of-those, in-each, of-each}
+use Rattle.cheapest.proofs.Lists.{of-one, in-those, of-those, in-each, of-each}
 use Rattle.cheapest.proofs.Asking.{different-is}
 use Rattle.pairing.proofs.Stations.{station-listed}
 
@@ -27,7 +27,7 @@ from-listed N x q = (tells, λ (y, i, n, e). in-each (λ y. pairOf x y ∷ []) y
     tells h =
         let (y, chosen, is) = of-each (λ y. pairOf x y ∷ []) q (those (λ y. not (sameStation x y)) (stationsOf N)) h in
         let (listed, t) = of-those (λ y. not (sameStation x y)) y (stationsOf N) chosen in
-        (y, listed, different-is x y .0 t, ⊎-elim (λ e. e) (λ n. absurd n) is)
+        (y, listed, different-is x y .0 t, of-one (pairOf x y) q is)
 
 pub pair-listed : (N : Network) (q : Question) → In q (pairs N) ↔ (GoodQuestion N q × (q .limit ≡ mostRides))
 unfolding pairs
