@@ -1,3 +1,4 @@
 pub mod Lines
 pub mod Stations
 pub mod Pairs
+pub mod Rising
