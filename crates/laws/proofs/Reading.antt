@@ -249,6 +249,17 @@ stations-few b w c h =
     let k = known-company b c h in
     rw (network-stations b c k) (w .companies c k .stations .to)
 
+pub stations-some : (b : List ℕ) → LaidOut b → (c : ℕ) → c < network b .companies → 2 ≤ network b .stations c
+stations-some b w c h =
+    let k = known-company b c h in
+    rw (network-stations b c k) (w .companies c k .stations .from)
+
+pub companies-few : (b : List ℕ) → LaidOut b → network b .companies ≤ 16
+companies-few b w = rw (network-companies b) (w .header .companies .to)
+
+pub companies-some : (b : List ℕ) → LaidOut b → 1 ≤ network b .companies
+companies-some b w = rw (network-companies b) (w .header .companies .from)
+
 pub links-few : (b : List ℕ) → LaidOut b → network b .links ≤ 128
 links-few b w = rw (network-links b) (w .header .links)
 

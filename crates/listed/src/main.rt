@@ -4,14 +4,12 @@ use text::digits;
 
 // Lists the books whose lines end in a block of the input, and answers how many digits the last has that goes on after it.
 fn list_block(text: &[u8], book: &mut [u8], before: usize) -> usize {
-    let mut space = io::large_buffer();
-    let out: &mut [u8] = &mut space;
     let mut count = before;
     let mut i: usize = 0;
     while i < text.len() {
         let x = text[i];
         if x == b'\n' {
-            lister::list(digits::made(book, count), out);
+            lister::list(digits::made(book, count));
             count = 0;
         } else {
             count = digits::put(book, count, x);

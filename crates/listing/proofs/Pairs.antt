@@ -1,5 +1,5 @@
 -- What is asked of a pair, and the answer that its line tells.
-use Prim.Native.Nat.{ℕ, _≤_}
+use Prim.Native.Nat.{ℕ}
 use mathlib.Core.Path.{_≡_, sym, subst, _∙_}
 use mathlib.Core.Bool.{false}
 use mathlib.Core.List.{List}
@@ -11,13 +11,12 @@ use Rattle.outline.specs.declared.Judged.{Judged}
 use Rattle.outline.specs.declared.Judged.the-variants.{Good}
 use Rattle.outline.specs.Network.{Network, sameStation}
 use Rattle.outline.specs.Book.{network}
-use Rattle.outline.specs.Valid.{LaidOut, ValidBook}
+use Rattle.outline.specs.Valid.{ValidBook}
 use Rattle.outline.specs.Questions.{Known, questionCheck, AnswerTo, Answered, Asked}
 use Rattle.outline.specs.Listing.{foundOf}
 use Rattle.laws.proofs.Tests.{true-not-false}
 use Rattle.laws.proofs.Firsts.{then-next}
 use Rattle.laws.proofs.Judging.{book-good, same-station-holds}
-use Rattle.laws.proofs.Reading.{network-companies}
 use Rattle.cheapest.proofs.Asking.{question-good}
 use Rattle.cheapest.proofs.Earlier.{one-answer}
 use Rattle.cheapest.proofs.Twin.{found-is, limit-within}
@@ -40,6 +39,3 @@ pair-answer b q r v g a =
     one-answer b q r (foundOf (network b) q)
     (subst (λ (j : Judged). AnswerTo j (network b) q r) (sym e) a)
     (subst (λ (j : Judged). AnswerTo j (network b) q (foundOf (network b) q)) (sym e) (found-is (network b) q (limit-within (network b) q g .to)))
-
-pub companies-few : (b : List ℕ) → LaidOut b → network b .companies ≤ 16
-companies-few b w = rw (network-companies b) (w .header .companies .to)

@@ -3,7 +3,6 @@ use libc::STDIN_FILENO;
 
 fn main() {
     let mut input = io::large_buffer();
-    let mut lines = io::large_buffer();
     let n = io::read_full(STDIN_FILENO, &mut input);
-    lister::list(&input[..n], &mut lines);
+    lister::list(&input[..n]);
 }

@@ -1,4 +1,4 @@
--- The block is read within its length, and the book and the buffer keep theirs.
+-- The block is read within its length, and the book keeps its own.
 use Prim.Native.Nat.{_≤_, _-_}
 use mathlib.Core.Path.{_≡_}
 use mathlib.Core.Logic.{⊎-elim}
@@ -8,16 +8,10 @@ use Rattle.listed.proofs.list_block.Statement.{statement}
 use Rattle.listed.proofs.list_block.Tie as tie
 
 abbrev Inv-loop : tie.InvT-loop
-Inv-loop text book₀ before out₀ count₀ i₀ book out count i = (i ≤ length text) × (length book ≡ length book₀) × (length out ≡ length out₀)
+Inv-loop text book₀ before count₀ i₀ book count i = (i ≤ length text) × (length book ≡ length book₀)
 
 abbrev μ-loop : tie.MeasureT-loop
-μ-loop text book₀ before out₀ count₀ i₀ book out count i = length text - i
-
-large-buffer-requires : tie.Need-large-buffer-requires Inv-loop μ-loop
-large-buffer-requires c κs = search needs
-
-slice-aggregate-out : tie.Need-slice-aggregate-out Inv-loop μ-loop
-slice-aggregate-out c = search needs
+μ-loop text book₀ before count₀ i₀ book count i = length text - i
 
 loop-holds : tie.Need-loop-holds Inv-loop μ-loop
 loop-holds c = search needs
@@ -41,7 +35,7 @@ loop-less : tie.Need-loop-less Inv-loop μ-loop
 loop-less c = search needs
 
 loop-again : tie.Need-loop-again Inv-loop μ-loop
-loop-again c = (search needs, ⊎-elim (λ w. search needs) (λ w. search needs) (c .if1 .came), ⊎-elim (λ w. search needs) (λ w. search needs) (c .if1 .came))
+loop-again c = (search needs, ⊎-elim (λ w. search needs) (λ w. search needs) (c .if1 .came))
 
 same-length : tie.Need-same-length Inv-loop μ-loop
 same-length c = search needs
@@ -55,8 +49,6 @@ list-block-spec =
     (tie.spec
     Inv-loop
     μ-loop
-    large-buffer-requires
-    slice-aggregate-out
     loop-holds
     shared-slice-read-x
     made-requires

@@ -1,52 +1,73 @@
--- A book that is found good is valid.
-use mathlib.Core.Path.{sym, _∙_}
+-- `lister::list` ends, and each row that it puts is one that the book has.
+use Prim.Native.Nat.{_≤_, _<_}
+use mathlib.Core.Path.{_≡_, sym, subst, _∙_}
 use native.Mathlib.Omega.{arith}
-use Rattle.laws.proofs.Judging.{book-good}
+use denote.Ref.{now}
+use lib.ListN.{length}
+use Rattle.rows.specs.Rows.{Due}
+use Rattle.rows.proofs.Walk.{due-first, due-after, left, left-less}
 use borrow.Author.Needs.{needs}
 use Rattle.lister.proofs.list.Statement.{statement}
 use Rattle.lister.proofs.list.Tie as tie
 
-judge-requires : tie.Need-judge-requires
-judge-requires c κs = search needs
+abbrev Inv-loop : tie.InvT-loop
+Inv-loop book out₀ row₀ out row = Due book row × (23040 ≤ length out)
 
-enum-told : tie.Need-enum-told
-enum-told c = search needs
+abbrev μ-loop : tie.MeasureT-loop
+μ-loop book out₀ row₀ out row = left row
 
-list-all-requires : tie.Need-list-all-requires
-list-all-requires c κs = (book-good _ .0 (sym (c .before .before .before .judge .ensures) ∙ c .before .enum-told .given .1), c .before .before .before .before .before .before .pre)
+large-buffer-requires : tie.Need-large-buffer-requires Inv-loop μ-loop
+large-buffer-requires c κs = search needs
 
-enum-known-judged : tie.Need-enum-known-judged
-enum-known-judged c = search needs
+slice-aggregate-out : tie.Need-slice-aggregate-out Inv-loop μ-loop
+slice-aggregate-out c = search needs
 
-put-refused-requires : tie.Need-put-refused-requires
-put-refused-requires c κs = omega (arith, c .before .before .before .before .before .before .before .pre)
+first-requires : tie.Need-first-requires Inv-loop μ-loop
+first-requires c κs = search needs
 
-write-requires : tie.Need-write-requires
-write-requires c κs = omega (arith, c .before .before .before .put-refused .ensures .1, c .before .before .before .before .before .before .before .before .before .before .before .pre)
+loop-holds : tie.Need-loop-holds Inv-loop μ-loop
+loop-holds c = (subst (Due _) (sym (c .first .ensures)) (due-first _), omega arith)
 
-same-length : tie.Need-same-length
-same-length c = search needs
+more-requires : tie.Need-more-requires Inv-loop μ-loop
+more-requires c κs = search needs
 
-returns : tie.Need-returns
+put-requires : tie.Need-put-requires Inv-loop μ-loop
+put-requires c κs = c .before .before .before .loop .inv
+
+write-requires : tie.Need-write-requires Inv-loop μ-loop
+write-requires c κs = omega (arith, c .before .before .before .put .ensures .1, c .before .before .before .before .before .before .before .loop .inv .1)
+
+after-requires : tie.Need-after-requires Inv-loop μ-loop
+after-requires c κs = c .before .before .before .before .before .before .before .before .loop .inv .0
+
+loop-less : tie.Need-loop-less Inv-loop μ-loop
+loop-less c =
+    let i = c .before .before .before .before .before .before .before .before .before .loop .inv in
+    let t = sym (c .before .before .before .before .before .before .before .before .more .ensures) ∙ c .before .before .before .before .before .before .before .if1 .taken in
+    rw (c .after .ensures) (left-less _ _ (i .0) t)
+
+loop-again : tie.Need-loop-again Inv-loop μ-loop
+loop-again c =
+    let i = c .before .before .before .before .before .before .before .before .before .loop .inv in
+    (subst (Due _) (sym (c .after .ensures)) (due-after _ _ (i .0)), omega (arith, i .1))
+
+returns : tie.Need-returns Inv-loop μ-loop
 returns c = search needs
-
-same-length-2 : tie.Need-same-length-2
-same-length-2 c = search needs
-
-returns-2 : tie.Need-returns-2
-returns-2 c = search needs
 
 pub list-spec : {M : Type 1} → statement M
 list-spec =
     tie.close
     (tie.spec
-    judge-requires
-    enum-told
-    list-all-requires
-    enum-known-judged
-    put-refused-requires
+    Inv-loop
+    μ-loop
+    large-buffer-requires
+    slice-aggregate-out
+    first-requires
+    loop-holds
+    more-requires
+    put-requires
     write-requires
-    same-length
-    returns
-    same-length-2
-    returns-2)
+    after-requires
+    loop-less
+    loop-again
+    returns)

@@ -1,16 +1,17 @@
 -- `listing::put_from` meets its contract.
 use Prim.Native.Nat.{ℕ, _*_, _-_, _≤_}
-use mathlib.Core.Path.{_≡_, refl, sym, ap}
+use mathlib.Core.Path.{_≡_, refl, sym, ap, _∙_}
 use native.Mathlib.Omega.{arith}
 use denote.Ref.{now}
 use lib.ListN.{length}
 use Rattle.outline.specs.Book.{network}
 use Rattle.outline.specs.Tests.{inOrder}
+use Rattle.laws.proofs.Reading.{companies-few}
 use Rattle.filling.proofs.InOrder.{order-more}
-use Rattle.listing.specs.Lines.{linesTo, linesFrom}
+use Rattle.pairing.proofs.Lines.{from-as-put}
+use Rattle.listing.specs.Lines.{lineTo, linesTo}
 use Rattle.listing.specs.Putting.{Put}
 use Rattle.listing.proofs.Putting.{put-nothing, put-same, put-then}
-use Rattle.listing.proofs.Pairs.{companies-few}
 use borrow.Author.Needs.{needs}
 use Rattle.listing.proofs.put_from.Statement.{statement}
 use Rattle.listing.proofs.put_from.Tie as tie
@@ -61,13 +62,13 @@ same-length : tie.Need-same-length Inv-loop μ-loop
 same-length c = c .before .loop .inv .2
 
 returns : tie.Need-returns Inv-loop μ-loop
-unfolding linesFrom
+unfolding lineTo linesTo
 returns c =
     let s = c .before .before .before .before .before in
     let i = c .before .loop .inv in
     let few = companies-few _ (s .pre .0 .laidOut) in
     let all : c .before .loop .c ≡ network (now (s .args .book)) .companies = omega (arith, c .loop-test .left, i .0, i .1) in
-    (put-same (ap (inOrder (linesTo (network (now (s .args .book))) (s .args .x))) all) (i .3), omega (arith, i .4))
+    (put-same (ap (inOrder (linesTo (network (now (s .args .book))) (s .args .x))) all ∙ sym (from-as-put (network (now (s .args .book))) (s .args .x))) (i .3), omega (arith, i .4))
 
 pub put-from-spec : {M : Type 1} → statement M
 put-from-spec =
