@@ -23,9 +23,9 @@ use Rattle.outline.specs.Judging.{bookCheck}
 use Rattle.outline.specs.Valid.{ValidBook}
 use Rattle.outline.specs.Price.{answerWith, answerOf, refusedAnswer}
 use Rattle.outline.specs.Questions.{Joins, Answered, Known, GoodQuestion, known, questionCheck, AnswerTo, Asked}
-use Rattle.laws.proofs.Tests.{true-not-false, fails, both-true, both-holds, within-true, within-holds}
+use Rattle.laws.proofs.Tests.{both-true, both-holds, within-true, within-holds}
 use Rattle.laws.proofs.Firsts.{refused-not-good, demand-good, demand-holds, then-next, then-refused}
-use Rattle.laws.proofs.Judging.{same-station, same-station-holds, book-good}
+use Rattle.laws.proofs.Judging.{other-station, book-good}
 use Rattle.laws.proofs.Named.{names-good, names-demand, demand-passes, demand-stays}
 
 -- ---- a question
@@ -39,8 +39,8 @@ known-is N x = (
 
 pub different-is : (x y : Station) → (not (sameStation x y) ≡ true) ↔ (x ≡ y → ⊥)
 different-is x y = (
-  λ t e. true-not-false (sym (same-station-holds x y e) ∙ not-true _ t),
-  λ n. ap not (fails (λ t. n (same-station x y t))),
+  λ t. other-station x y .0 (not-true _ t),
+  λ n. ap not (other-station x y .1 n),
 )
 
 limit-is : (n : ℕ) → (within 1 n mostRides ≡ true) ↔ Within 1 n mostRides

@@ -182,6 +182,9 @@ pub same-station-holds : (x y : Station) → x ≡ y → sameStation x y ≡ tru
 unfolding sameStation
 same-station-holds x y e = both-holds _ _ (eq-eqb _ _ (ap (λ (s : Station). s .company) e)) (eq-eqb _ _ (ap (λ (s : Station). s .number) e))
 
+pub other-station : (x y : Station) → (sameStation x y ≡ false) ↔ (x ≡ y → ⊥)
+other-station x y = (λ f e. true-not-false (sym (same-station-holds x y e) ∙ f), λ n. fails (λ t. n (same-station x y t)))
+
 pub same-link : (x y : Link) → sameLink x y ≡ true → x ≡ y
 unfolding sameLink
 same-link x y e =

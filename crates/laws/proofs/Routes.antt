@@ -17,8 +17,8 @@ use Rattle.outline.specs.declared.Joined.the-variants.{ByLink, NoLink}
 use Rattle.outline.specs.Tests.{either}
 use Rattle.outline.specs.Network.{Network, sameStation, linkBetween}
 use Rattle.outline.specs.Routes.{boardedAt, alightedAt, Exists, Change, rideAt, isSold, exists, isLink, reached, met, meets, repeats, goodNext}
-use Rattle.laws.proofs.Tests.{true-not-false, fails, both-true, both-holds, either-true, either-false, some-false, none-holds}
-use Rattle.laws.proofs.Judging.{same-station, same-station-holds}
+use Rattle.laws.proofs.Tests.{true-not-false, both-true, both-holds, either-true, either-false, some-false, none-holds}
+use Rattle.laws.proofs.Judging.{other-station}
 use Rattle.laws.proofs.Book.{no-link, found-link}
 
 -- ---- a ride exists
@@ -94,12 +94,6 @@ pub record Disjoint (a b : Leg) : Type 0 where
   pub onward : alightedAt a ≡ boardedAt b → ⊥
   pub back : boardedAt a ≡ alightedAt b → ⊥
 
-differ : (x y : Station) → sameStation x y ≡ false → x ≡ y → ⊥
-differ x y f e = true-not-false (sym (same-station-holds x y e) ∙ f)
-
-differs : (x y : Station) → (x ≡ y → ⊥) → sameStation x y ≡ false
-differs x y n = fails (λ t. n (same-station x y t))
-
 meets-is : (a b : Leg) → (meets a b ≡ false) ↔ Disjoint a b
 unfolding meets met either
 meets-is a b = (tells, holds)
@@ -109,10 +103,10 @@ meets-is a b = (tells, holds)
         let p = either-false _ _ e in
         let q = either-false _ _ (p .0) in
         let r = either-false _ _ (p .1) in
-        record { boarding = differ _ _ (q .0); onward = differ _ _ (q .1); back = differ _ _ (r .0); alighting = differ _ _ (r .1) }
+        record { boarding = other-station _ _ .0 (q .0); onward = other-station _ _ .0 (q .1); back = other-station _ _ .0 (r .0); alighting = other-station _ _ .0 (r .1) }
 
     holds : Disjoint a b → meets a b ≡ false
-    holds d = rw (differs _ _ (d .boarding), differs _ _ (d .onward), differs _ _ (d .back), differs _ _ (d .alighting))
+    holds d = rw (other-station _ _ .1 (d .boarding), other-station _ _ .1 (d .onward), other-station _ _ .1 (d .back), other-station _ _ .1 (d .alighting))
 
 abbrev pub Fresh : List Leg → Leg → Type 0
 Fresh before l = (j : ℕ) → j < length before → Disjoint (rideAt before j) l

@@ -14,9 +14,8 @@ use Rattle.outline.specs.Book.{network}
 use Rattle.outline.specs.Valid.{ValidBook}
 use Rattle.outline.specs.Questions.{Known, questionCheck, AnswerTo, Answered, Asked}
 use Rattle.outline.specs.Listing.{foundOf}
-use Rattle.laws.proofs.Tests.{true-not-false}
 use Rattle.laws.proofs.Firsts.{then-next}
-use Rattle.laws.proofs.Judging.{book-good, same-station-holds}
+use Rattle.laws.proofs.Judging.{book-good, other-station}
 use Rattle.cheapest.proofs.Asking.{question-good}
 use Rattle.cheapest.proofs.Earlier.{one-answer}
 use Rattle.cheapest.proofs.Twin.{found-is, limit-within}
@@ -27,7 +26,7 @@ pub pair-good : (N : Network) (x y : Station) → Known N x → Known N y → sa
 pair-good N x y from to f = question-good N (pairOf x y) .1 (record {
   from = from;
   to = to;
-  different = λ e. true-not-false (sym (same-station-holds x y e) ∙ f);
+  different = other-station x y .0 f;
   limit = record { from = omega arith; to = omega arith };
 })
 

@@ -10,12 +10,13 @@ use Rattle.outline.specs.declared.Question.{Question}
 use Rattle.outline.specs.Numbers.{mostRides}
 use Rattle.outline.specs.Tests.{Within}
 use Rattle.outline.specs.Network.{Network, sameStation}
-use Rattle.outline.specs.Questions.{GoodQuestion}
-use Rattle.outline.specs.Listing.{those}
+use Rattle.outline.specs.Questions.{GoodQuestion, Answered}
+use Rattle.outline.specs.Listing.{those, foundOf}
 use Rattle.outline.specs.Lister.{stationsOf, pairOf, pairsFrom, pairs}
 use Rattle.cheapest.specs.Items.{In}
 use Rattle.cheapest.proofs.Lists.{of-one, in-those, of-those, in-each, of-each}
 use Rattle.cheapest.proofs.Asking.{different-is}
+use Rattle.cheapest.proofs.Twin.{found-is}
 use Rattle.pairing.proofs.Stations.{station-listed}
 
 -- what is listed from x is a pair of x and another station
@@ -46,3 +47,7 @@ pair-listed N q = (tells, holds)
         in-each (pairsFrom N) (q .from) q (stationsOf N) (station-listed N (q .from) .1 (g .from))
         (from-listed N (q .from) q .1
         (q .to, station-listed N (q .to) .1 (g .to), g .different, ap (λ (n : ℕ). record { from = q .from; to = q .to; limit = n }) (sym e)))
+
+-- what its line tells is the question's one answer: the cheapest route's, or that there is none
+pub line-answered : (N : Network) (q : Question) → In q (pairs N) → Answered N q (foundOf N q)
+line-answered N q h = found-is N q (pair-listed N q .0 h .0 .limit .to)
