@@ -10,8 +10,9 @@ How to run it. From the repository's root:
 prints a book as one line of hex digits. The names: `q` (book Q), `dear_q`
 (book Q with a first fare of 10,000, which is refused), `two_companies` (the
 pair lister's example), `two_ways` (a discount makes the dearer of two routes
-the cheaper), `spring` (a discount pays a walk that meets a station twice), `least` (one company of two stations), `largest` (16
-companies of 40 stations, 128 links, 32 rules).
+the cheaper), `spring` (a discount pays a walk that meets a station twice),
+`least` (one company of two stations), `largest` (16 companies of 40 stations,
+128 links, 32 rules).
 """
 
 import sys
