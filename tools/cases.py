@@ -16,14 +16,8 @@ import itertools
 
 import examples
 import stored
-from examples import assemble, book, bit_map, both_ways, company, rule, word
+from examples import assemble, bit_map, book, both_ways, changed, company, rule, word
 from judge import verdict
-
-
-def changed(old, at, new):
-    """A book with these bytes at an offset."""
-    new = bytes(new)
-    return old[:at] + new + old[at + len(new):]
 
 
 def of_the_outline():

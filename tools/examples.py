@@ -72,6 +72,12 @@ def book(tables, links=(), rules=()):
     return assemble([company(table) for table in tables], [bytes(link) for link in links], rules)
 
 
+def changed(old, at, new):
+    """A book with these bytes at an offset."""
+    new = bytes(new)
+    return old[:at] + new + old[at + len(new):]
+
+
 def q(first=130):
     """Book Q, with this fare between A0 and A1."""
     return book(

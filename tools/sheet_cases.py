@@ -151,7 +151,7 @@ def main():
     sheets = [numbers_of(sheet) for (sheet,), _ in told_sheets] + [sheet_of(examples.q()), sheet_of(longest())]
     for numbers in sheets + list(of_limits()):
         cases.update(of_sheet(numbers))
-    stored.write("sheets", cases, cases.values())
+    stored.write_lines("sheets", cases, cases.values())
     print("%d cases" % len(cases))
 
 

@@ -7,8 +7,8 @@ its cases; what those scripts share stands here.
 How to use it, from another script. A case is what is asked, a tuple of byte
 strings, and what is said to it, a line. `vectors(path)` gives the cases of a
 file of vectors; `store(program, told, find, others)` stores cases whose
-answers are told and others that `find` answers; `write(program, asked, said)`
-writes the two files.
+answers are told and others that `find` answers; `write` and `write_lines`
+write the two files.
 """
 
 import os
@@ -58,10 +58,15 @@ def agree(told, find):
 
 
 def write(program, asked, said):
-    """Writes what a program is run on and what it must print, line by line."""
-    for name, lines in (("stdin", asked), ("stdout", said)):
-        with open(os.path.join(ROOT, "crates", program, name), "w", encoding="ascii") as out:
-            out.writelines(line + "\n" for line in lines)
+    """Writes what a program is run on and what it must print, each as bytes."""
+    for name, data in (("stdin", asked), ("stdout", said)):
+        with open(os.path.join(ROOT, "crates", program, name), "wb") as out:
+            out.write(data)
+
+
+def write_lines(program, asked, said):
+    """Writes what a program is run on and what it must print, each as lines."""
+    write(program, *("".join(line + "\n" for line in lines).encode("ascii") for lines in (asked, said)))
 
 
 def store(program, told, find, others):
@@ -73,5 +78,5 @@ def store(program, told, find, others):
         line = line_asked(asked)
         if line not in cases:
             cases[line] = find(*asked)
-    write(program, cases, cases.values())
+    write_lines(program, cases, cases.values())
     print("%d cases, of which %d are vectors or follow from the outline by hand" % (len(cases), len(told)))
