@@ -94,7 +94,8 @@ fn fare(kind: Kind, random: &mut Random) -> u16 {
 }
 
 fn links(kind: Kind, sizes: &[usize], random: &mut Random) -> Vec<[u16; 4]> {
-    let most: usize = (0..sizes.len()).flat_map(|a| (a + 1..sizes.len()).map(move |b| (a, b))).map(|(a, b)| sizes[a] * sizes[b]).sum();
+    let most: usize =
+        (0..sizes.len()).flat_map(|a| (a + 1..sizes.len()).map(move |b| (a, b))).map(|(a, b)| sizes[a] * sizes[b]).sum();
     let wanted = match kind {
         Kind::Tiny => random.between(0, 10),
         Kind::Loops => random.between(3, 16),
@@ -134,7 +135,15 @@ fn rule(kind: Kind, made: &Made, random: &mut Random) -> Vec<u16> {
         let linked: Vec<u16> = made
             .links
             .iter()
-            .filter_map(|l| if l[0] == last { Some(l[2]) } else if l[2] == last { Some(l[0]) } else { None })
+            .filter_map(|l| {
+                if l[0] == last {
+                    Some(l[2])
+                } else if l[2] == last {
+                    Some(l[0])
+                } else {
+                    None
+                }
+            })
             .collect();
         let next = if linked.is_empty() || random.chance(5) {
             random.between(0, made.sizes.len() - 1) as u16

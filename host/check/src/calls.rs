@@ -71,7 +71,9 @@ impl Calls {
             && lent.holds(written(&want))
             && kept == book
             && kept_route == route;
-        self.count(right, number(&want), || format!("price into {room} of {route:?} in {} gave {got:?}, not {want:?}", hex(book)));
+        self.count(right, number(&want), || {
+            format!("price into {room} of {route:?} in {} gave {got:?}, not {want:?}", hex(book))
+        });
     }
 
     /// Gives back what the plain one answers.

@@ -184,9 +184,15 @@ impl Run {
         }
         let t = &self.tally;
         println!("{} cases compared, {} wrong", self.calls.cases, self.calls.wrong.len());
-        println!("  books: {} good, {} damaged; the largest among them: {} books, {} cases", t.books, t.damaged, t.largest, t.largest_cases);
+        println!(
+            "  books: {} good, {} damaged; the largest among them: {} books, {} cases",
+            t.books, t.damaged, t.largest, t.largest_cases
+        );
         println!("  questions where a route that comes back to a station would be cheaper: {}", t.looped);
-        println!("  routes where discounts overlap: {}, tie: {}, and where the largest first would earn less: {}", t.overlap, t.tie, t.greedy);
+        println!(
+            "  routes where discounts overlap: {}, tie: {}, and where the largest first would earn less: {}",
+            t.overlap, t.tie, t.greedy
+        );
         let refused: Vec<String> = (1..15).map(|n| format!("{n}: {}", self.calls.refused[n])).collect();
         println!("  refusals, by number: {}", refused.join(", "));
     }
