@@ -13,6 +13,8 @@ pub enum Kind {
     Rows,
     /// Anything in between.
     Middling,
+    /// 16 companies of 40 stations and few links: long lists that are soon made.
+    Sparse,
     /// 16 companies of 40 stations, 128 links, 32 rules: links spread at random.
     Spread,
     /// The same, with all links between two companies.
@@ -33,7 +35,7 @@ pub fn sheet(kind: Kind, random: &mut Random) -> Vec<u16> {
         Kind::Loops => (random.between(2, 3), 3, 5),
         Kind::Rows => (random.between(2, 4), 2, 5),
         Kind::Middling => (random.between(1, 9), 2, 14),
-        Kind::Spread | Kind::TwoCompanies => (16, 40, 40),
+        Kind::Sparse | Kind::Spread | Kind::TwoCompanies => (16, 40, 40),
     };
     let sizes: Vec<usize> = (0..companies).map(|_| random.between(low, high)).collect();
     let tables = sizes.iter().map(|&n| table(kind, n, random)).collect();
@@ -89,7 +91,7 @@ fn fare(kind: Kind, random: &mut Random) -> u16 {
         Kind::Loops => random.between(300, 700),
         Kind::Rows => 100 + random.pick(&[0, 0, 0, 10]),
         Kind::Middling => random.pick(&[1, 50, 9_999, 120, 400, 999]),
-        Kind::Spread | Kind::TwoCompanies => random.between(1, 9_999),
+        Kind::Sparse | Kind::Spread | Kind::TwoCompanies => random.between(1, 9_999),
     }) as u16
 }
 
@@ -101,6 +103,7 @@ fn links(kind: Kind, sizes: &[usize], random: &mut Random) -> Vec<[u16; 4]> {
         Kind::Loops => random.between(3, 16),
         Kind::Rows => random.between(6, 24),
         Kind::Middling => random.between(0, 60),
+        Kind::Sparse => 12,
         Kind::Spread | Kind::TwoCompanies => 128,
     };
     let mut links: Vec<[u16; 4]> = Vec::new();
@@ -172,7 +175,7 @@ fn amount(kind: Kind, random: &mut Random) -> u16 {
         Kind::Loops => random.between(300, 999),
         Kind::Rows => random.pick(&[10, 20, 20, 30, 40]),
         Kind::Middling => random.pick(&[1, 20, 100, 998, 999]),
-        Kind::Spread | Kind::TwoCompanies => random.between(1, 999),
+        Kind::Sparse | Kind::Spread | Kind::TwoCompanies => random.between(1, 999),
     }) as u16
 }
 
