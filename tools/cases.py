@@ -1,11 +1,9 @@
 """Write what the program `judging` is run on in the gate, and what it must print.
 
-What it is for. `rt ci` runs `judging` on crates/judging/stdin and compares
-what it prints with crates/judging/stdout. This script writes both files. No
-answer in them comes from the crates: those of the vectors are the vectors'
-own, those that document 01 names are written below, and all others come from
-tools/judge.py. Before anything is written, tools/judge.py has to agree with
-every vector and with every answer written below.
+What it is for. It makes the cases that tools/stored.py stores for `judging`. No
+answer comes from the crates: those of the vectors are the vectors' own, those
+that document 01 names are written below, and all others come from
+tools/judge.py, once it agrees with every vector and every answer below.
 
 How to run it. From the repository's root, with the path of the vectors:
 
@@ -14,20 +12,12 @@ How to run it. From the repository's root, with the path of the vectors:
 It prints how many cases it wrote.
 """
 
-import os
-import sys
+import itertools
 
 import examples
-from examples import assemble, book, bit_map, both_ways, company, line_of, rule, word
-from judge import answer, book_of, judge
-
-ROOT = os.path.dirname(os.path.dirname(os.path.abspath(__file__)))
-
-
-def changed(old, at, new):
-    """A book with these bytes at an offset."""
-    new = bytes(new)
-    return old[:at] + new + old[at + len(new):]
+import stored
+from examples import assemble, bit_map, book, both_ways, changed, company, rule, word
+from judge import verdict
 
 
 def of_the_outline():
@@ -171,33 +161,11 @@ def of_the_largest():
     yield largest + b"\0"
 
 
-def vectors(path):
-    """The books of a file of vectors, with their answers."""
-    with open(path, encoding="ascii") as lines:
-        for line in lines:
-            digits, told = line.rstrip("\n").split(" = ")
-            yield book_of(digits), told
-
-
 def main():
-    if len(sys.argv) != 2:
-        sys.exit(__doc__)
-    told = list(vectors(sys.argv[1])) + of_the_outline()
-    wrong = [(line_of(b), said, answer(judge(b))) for b, said in told if answer(judge(b)) != said]
-    for digits, said, judged in wrong:
-        print("%s: told %s, judged %s" % (digits, said, judged))
-    if wrong:
-        sys.exit("%d answers differ: nothing is written" % len(wrong))
-    cases = dict((line_of(b), said) for b, said in told)
-    for kind in (of_numbers, of_contents, of_bodies, of_book_q, of_the_largest):
-        for b in kind():
-            cases.setdefault(line_of(b), answer(judge(b)))
-    place = os.path.join(ROOT, "crates", "judging")
-    with open(os.path.join(place, "stdin"), "w", encoding="ascii") as out:
-        out.writelines(digits + "\n" for digits in cases)
-    with open(os.path.join(place, "stdout"), "w", encoding="ascii") as out:
-        out.writelines(said + "\n" for said in cases.values())
-    print("%d cases, of which %d are vectors or named by the outline" % (len(cases), len(told)))
+    path = stored.only_argument(__doc__)
+    others = itertools.chain(of_numbers(), of_contents(), of_bodies(), of_book_q(), of_the_largest())
+    told = itertools.chain(stored.vectors(path), (((b,), said) for b, said in of_the_outline()))
+    stored.store("judging", told, verdict, ((b,) for b in others))
 
 
 if __name__ == "__main__":

@@ -26,9 +26,9 @@ import sys
 import tempfile
 
 from examples import assemble, bit_map, company, line_of, rule, word
-from judge import answer, book_of, judge
+from judge import book_of, verdict
+from stored import ROOT
 
-ROOT = os.path.dirname(os.path.dirname(os.path.abspath(__file__)))
 TELLING_BYTES = (0, 1, 2, 3, 4, 5, 39, 40, 41, 127, 128, 129, 254, 255)
 TELLING_WORDS = (0, 1, 2, 999, 1000, 1001, 9998, 9999, 10000, 10001, 32768, 65535)
 BATCH = 10000
@@ -180,7 +180,7 @@ def main():
     asked = wants.parse_args()
     rng = random.Random(asked.seed)
     lines = [line_of(random_book(rng)[:65536]) for _ in range(asked.cases)]
-    expected = [answer(judge(book_of(line))) for line in lines]
+    expected = [verdict(book_of(line)) for line in lines]
     print("seed %d, %d cases" % (asked.seed, asked.cases))
     for said, count in sorted(collections.Counter(" ".join(line.split()[:2]) for line in expected).items()):
         print("%8d %s" % (count, said))

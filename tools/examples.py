@@ -10,8 +10,9 @@ How to run it. From the repository's root:
 prints a book as one line of hex digits. The names: `q` (book Q), `dear_q`
 (book Q with a first fare of 10,000, which is refused), `two_companies` (the
 pair lister's example), `two_ways` (a discount makes the dearer of two routes
-the cheaper), `spring` (a discount pays a walk that meets a station twice), `least` (one company of two stations), `largest` (16
-companies of 40 stations, 128 links, 32 rules).
+the cheaper), `spring` (a discount pays a walk that meets a station twice),
+`least` (one company of two stations), `largest` (16 companies of 40 stations,
+128 links, 32 rules).
 """
 
 import sys
@@ -69,6 +70,12 @@ def assemble(bodies, links, rules):
 def book(tables, links=(), rules=()):
     """A book of these tables, links of four numbers, and rules of 33 bytes."""
     return assemble([company(table) for table in tables], [bytes(link) for link in links], rules)
+
+
+def changed(old, at, new):
+    """A book with these bytes at an offset."""
+    new = bytes(new)
+    return old[:at] + new + old[at + len(new):]
 
 
 def q(first=130):

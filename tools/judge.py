@@ -14,7 +14,7 @@ Standard input has one book a line, two hex digits a byte, `-` for an empty
 book. Standard output has one answer a line: `ok`, or `refused NUMBER PLACE`.
 
 From another script: `judge(book)` gives `None` for a good book, or the pair
-(number, place) of its first refusal.
+(number, place) of its first refusal; `verdict(book)` gives the line.
 """
 
 import sys
@@ -171,6 +171,11 @@ def answer(refusal):
     return "refused %d %d" % refusal
 
 
+def verdict(book):
+    """The line that answers a book."""
+    return answer(judge(book))
+
+
 def book_of(line):
     """The book that a line of hex digits says."""
     return b"" if line == "-" else bytes.fromhex(line)
@@ -178,7 +183,7 @@ def book_of(line):
 
 def main():
     for line in sys.stdin.read().split():
-        print(answer(judge(book_of(line))))
+        print(verdict(book_of(line)))
 
 
 if __name__ == "__main__":

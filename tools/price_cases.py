@@ -1,11 +1,9 @@
 """Write what the program `pricing` is run on in the gate, and what it must print.
 
-What it is for. `rt ci` runs `pricing` on crates/pricing/stdin and compares
-what it prints with crates/pricing/stdout. This script writes both files. No
-answer in them comes from the crates: those of the vectors are the vectors'
-own, those that document 01 names are written below, and all others come from
-tools/price.py. Before anything is written, tools/price.py has to agree with
-every vector and with every answer written below.
+What it is for. It makes the cases that tools/stored.py stores for `pricing`. No
+answer comes from the crates: those of the vectors are the vectors' own, those
+that document 01 names are written below, and all others come from
+tools/price.py, once it agrees with every vector and every answer below.
 
 How to run it. From the repository's root, with the path of the vectors:
 
@@ -15,16 +13,12 @@ It prints how many cases it wrote.
 """
 
 import itertools
-import os
 import random
-import sys
 
 import examples
-from examples import book, both_ways, line_of, rule
-from judge import book_of
+import stored
+from examples import book, both_ways, rule
 from price import price
-
-ROOT = os.path.dirname(os.path.dirname(os.path.abspath(__file__)))
 
 
 def line(fares, rules):
@@ -81,12 +75,12 @@ def of_the_outline():
         (hundreds[:3], [pays(0, 3, 20, [0])], 300, [full] * 3),
         (hundreds[:3], [pays(0, 3, 20, [0, 1])], 280, [0] * 3),
     ):
-        yield line(fares, rules), along(len(fares)), paid(fare, fares, marks)
+        yield (line(fares, rules), along(len(fares))), paid(fare, fares, marks)
     # One rule pays two runs: A, B, A, B.
     square = both_ways(4, {(0, 1): 100, (2, 3): 100})
     twice = book([square, square], [(0, 1, 1, 0), (0, 2, 1, 1), (0, 3, 1, 2)], [rule([0, 1], 30, [0, 2], [1, 3], [0, 2])])
     told = "fare 340 rides 4 0 0 1 0 1 0 1 0 0 2 3 0 1 2 3 0"
-    yield twice, bytes((0, 0, 1, 1, 0, 1, 0, 2, 3, 1, 2, 3)), told
+    yield (twice, bytes((0, 0, 1, 1, 0, 1, 0, 2, 3, 1, 2, 3))), told
 
 
 def of_book_q():
@@ -124,33 +118,9 @@ def of_rules(seed, count):
         yield line(fares, rules), along(rng.choice((3, 4, 4, 4)))
 
 
-def vectors(path):
-    """The cases of a file of vectors, with their answers."""
-    with open(path, encoding="ascii") as lines:
-        for text in lines:
-            asked, told = text.rstrip("\n").split(" = ")
-            digits, route = asked.split(" ")
-            yield book_of(digits), book_of(route), told
-
-
 def main():
-    if len(sys.argv) != 2:
-        sys.exit(__doc__)
-    told = list(vectors(sys.argv[1])) + list(of_the_outline())
-    wrong = [(line_of(b) + " " + line_of(r), said, price(b, r)) for b, r, said in told if price(b, r) != said]
-    for asked, said, priced in wrong:
-        print("%s: told %s, priced %s" % (asked, said, priced))
-    if wrong:
-        sys.exit("%d answers differ: nothing is written" % len(wrong))
-    cases = dict((line_of(b) + " " + line_of(r), said) for b, r, said in told)
-    for b, r in itertools.chain(of_book_q(), of_refused_books(), of_rules(4, 300)):
-        cases.setdefault(line_of(b) + " " + line_of(r), price(b, r))
-    place = os.path.join(ROOT, "crates", "pricing")
-    with open(os.path.join(place, "stdin"), "w", encoding="ascii") as out:
-        out.writelines(asked + "\n" for asked in cases)
-    with open(os.path.join(place, "stdout"), "w", encoding="ascii") as out:
-        out.writelines(said + "\n" for said in cases.values())
-    print("%d cases, of which %d are vectors or follow from the outline by hand" % (len(cases), len(told)))
+    told = itertools.chain(stored.vectors(stored.only_argument(__doc__)), of_the_outline())
+    stored.store("pricing", told, price, itertools.chain(of_book_q(), of_refused_books(), of_rules(4, 300)))
 
 
 if __name__ == "__main__":

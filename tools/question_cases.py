@@ -1,11 +1,9 @@
 """Write what the program `asking` is run on in the gate, and what it must print.
 
-What it is for. `rt ci` runs `asking` on crates/asking/stdin and compares what
-it prints with crates/asking/stdout. This script writes both files. No answer
-in them comes from the crates: those of the vectors are the vectors' own,
-those that document 01 names are written below, and all others come from
-tools/cheapest.py. Before anything is written, tools/cheapest.py has to agree
-with every vector and with every answer written below.
+What it is for. It makes the cases that tools/stored.py stores for `asking`. No
+answer comes from the crates: those of the vectors are the vectors' own, those
+that document 01 names are written below, and all others come from
+tools/cheapest.py, once it agrees with every vector and every answer below.
 
 How to run it. From the repository's root, with the path of the vectors:
 
@@ -15,15 +13,11 @@ It prints how many cases it wrote.
 """
 
 import itertools
-import os
-import sys
 
 import examples
+import stored
 from cheapest import cheapest
-from examples import line_of
 from judge import book_of
-
-ROOT = os.path.dirname(os.path.dirname(os.path.abspath(__file__)))
 
 
 def of_the_outline():
@@ -44,10 +38,10 @@ def of_the_outline():
         ((0, 0, 0, 2, 0), "refused 11 0"),
         ((0, 0, 0, 2, 5), "refused 11 0"),
     ):
-        yield q, bytes(question), told
-    yield examples.two_ways(), bytes((0, 0, 1, 1, 4)), "fare 260 rides 2 0 0 2 0 1 2 1 0"
+        yield (q, bytes(question)), told
+    yield (examples.two_ways(), bytes((0, 0, 1, 1, 4))), "fare 260 rides 2 0 0 2 0 1 2 1 0"
     # A search that drops the looped walk for 70 and keeps the next in hand says 200.
-    yield examples.spring(), bytes((0, 0, 2, 1, 4)), "fare 190 rides 2 0 0 3 1 2 2 1 1"
+    yield (examples.spring(), bytes((0, 0, 2, 1, 4))), "fare 190 rides 2 0 0 3 1 2 2 1 1"
 
 
 def of_all_pairs():
@@ -67,33 +61,15 @@ def of_refused_books():
             yield bad, bytes(question)
 
 
-def vectors(path):
-    """The cases of a file of vectors, with their answers."""
-    with open(path, encoding="ascii") as lines:
-        for text in lines:
-            asked, told = text.rstrip("\n").split(" = ")
-            digits, *question = asked.split(" ")
-            yield book_of(digits), bytes(map(int, question)), told
+def asked_of(words):
+    """A book in hex digits, and the numbers of a question."""
+    digits, *question = words
+    return book_of(digits), bytes(map(int, question))
 
 
 def main():
-    if len(sys.argv) != 2:
-        sys.exit(__doc__)
-    told = list(vectors(sys.argv[1])) + list(of_the_outline())
-    wrong = [(line_of(b) + " " + line_of(q), said, cheapest(b, q)) for b, q, said in told if cheapest(b, q) != said]
-    for asked, said, found in wrong:
-        print("%s: told %s, found %s" % (asked, said, found))
-    if wrong:
-        sys.exit("%d answers differ: nothing is written" % len(wrong))
-    cases = dict((line_of(b) + " " + line_of(q), said) for b, q, said in told)
-    for b, q in itertools.chain(of_all_pairs(), of_refused_books()):
-        cases.setdefault(line_of(b) + " " + line_of(q), cheapest(b, q))
-    place = os.path.join(ROOT, "crates", "asking")
-    with open(os.path.join(place, "stdin"), "w", encoding="ascii") as out:
-        out.writelines(asked + "\n" for asked in cases)
-    with open(os.path.join(place, "stdout"), "w", encoding="ascii") as out:
-        out.writelines(said + "\n" for said in cases.values())
-    print("%d cases, of which %d are vectors or follow from the outline by hand" % (len(cases), len(told)))
+    told = itertools.chain(stored.vectors(stored.only_argument(__doc__), asked_of), of_the_outline())
+    stored.store("asking", told, cheapest, itertools.chain(of_all_pairs(), of_refused_books()))
 
 
 if __name__ == "__main__":

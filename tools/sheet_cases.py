@@ -1,10 +1,8 @@
 """Write what the program `sheets` is run on in the gate, and what it must print.
 
-What it is for. `rt ci` runs `sheets` on crates/sheets/stdin and compares what
-it prints with crates/sheets/stdout. This script writes both files. No answer
-in them comes from the crates: those of the vectors are the vectors' own, and
-all others come from tools/judge.py and tools/sheet.py. Before anything is
-written, these two have to agree with every vector.
+What it is for. It makes the cases that tools/stored.py stores for `sheets`.
+No answer comes from the crates: all come from tools/judge.py and
+tools/sheet.py, once these two agree with every vector.
 
 How to run it. From the repository's root, with the path of the vectors:
 
@@ -15,15 +13,13 @@ crates/sheets/src/main.rt.
 """
 
 import os
-import sys
 import zlib
 
 import examples
+import stored
 from examples import both_ways, rule
-from judge import answer, book_of as book_of_line, judge
+from judge import answer, judge, verdict
 from sheet import book_of, judge_sheet, sheet_of
-
-ROOT = os.path.dirname(os.path.dirname(os.path.abspath(__file__)))
 
 # What stands in a lent list before anything is written.
 BYTE = 165
@@ -32,14 +28,13 @@ BYTE = 165
 LONG = 32
 
 
-def numbers_of(digits):
-    """The numbers of a sheet from its hex digits, four a number."""
-    digits = "" if digits == "-" else digits
-    return [int(digits[i : i + 4], 16) for i in range(0, len(digits), 4)]
+def numbers_of(data):
+    """A sheet's numbers from bytes, the high byte first, as a line of the input has them."""
+    return [256 * high + low for high, low in zip(data[::2], data[1::2])]
 
 
 def big(numbers):
-    """A sheet's numbers as bytes, the high byte first, as a line of the input has them."""
+    """A sheet's numbers as bytes, the high byte first."""
     return b"".join(x.to_bytes(2, "big") for x in numbers)
 
 
@@ -80,7 +75,7 @@ def lines(kind, given, refusal, result, unit):
         if refusal is None and room >= need:
             said, after = "wrote %d" % need, result + lent[len(result) :]
         else:
-            said, after = "refused %d %d" % (refusal or (13, 0)), lent
+            said, after = answer(refusal or (13, 0)), lent
         yield "%s%d:%s" % (kind, room, digits_of(given)), "%s %d %s" % (said, zlib.adler32(after), "lost" if refusal else "back")
         if refusal:
             return
@@ -133,42 +128,30 @@ def of_limits():
     yield sheet_of(examples.book([pair, pair], [], [rule([0, 1], 1, [], [], [])] * 32))
 
 
-def vectors(folder, name):
-    with open(os.path.join(folder, name), encoding="ascii") as told:
-        for line in told:
-            yield line.rstrip("\n").split(" = ")
-
-
-def agree(folder):
-    """Every vector of books and sheets against judge.py and sheet.py."""
-    for digits, said in vectors(folder, "books.txt"):
-        assert answer(judge(book_of_line(digits))) == said, digits
-    for digits, said in vectors(folder, "sheets.txt"):
-        numbers = numbers_of(digits)
-        refusal = judge_sheet(numbers)
-        assert ("refused %d %d" % refusal if refusal else book_of(numbers).hex()) == said, digits
-        assert refusal or sheet_of(book_of(numbers)) == numbers, digits
+def written(sheet):
+    """The line that says what a sheet, its numbers as bytes, is written as."""
+    numbers = numbers_of(sheet)
+    refusal = judge_sheet(numbers)
+    if refusal:
+        return answer(refusal)
+    assert sheet_of(book_of(numbers)) == numbers
+    return book_of(numbers).hex()
 
 
 def main():
-    if len(sys.argv) != 2:
-        sys.exit(__doc__)
-    folder = sys.argv[1]
-    agree(folder)
+    folder = stored.only_argument(__doc__)
+    told_books, told_sheets = (list(stored.vectors(os.path.join(folder, name))) for name in ("books.txt", "sheets.txt"))
+    stored.agree(told_books, verdict)
+    stored.agree(told_sheets, written)
     assert len(sheet_of(examples.q())) == 99
     assert len(longest()) == 52860 and len(sheet_of(longest())) == 27155
     cases = {}
-    books = [book_of_line(digits) for digits, _ in vectors(folder, "books.txt")] + [b"", examples.q(), examples.two_companies(), longest()]
-    sheets = [numbers_of(digits) for digits, _ in vectors(folder, "sheets.txt")] + [sheet_of(examples.q()), sheet_of(longest())]
-    for book in books:
+    for book in [book for (book,), _ in told_books] + [b"", examples.q(), examples.two_companies(), longest()]:
         cases.update(of_book(book))
+    sheets = [numbers_of(sheet) for (sheet,), _ in told_sheets] + [sheet_of(examples.q()), sheet_of(longest())]
     for numbers in sheets + list(of_limits()):
         cases.update(of_sheet(numbers))
-    place = os.path.join(ROOT, "crates", "sheets")
-    with open(os.path.join(place, "stdin"), "w", encoding="ascii") as out:
-        out.writelines(case + "\n" for case in cases)
-    with open(os.path.join(place, "stdout"), "w", encoding="ascii") as out:
-        out.writelines(said + "\n" for said in cases.values())
+    stored.write_lines("sheets", cases, cases.values())
     print("%d cases" % len(cases))
 
 

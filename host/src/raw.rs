@@ -48,9 +48,7 @@ pub fn write(sheet: &[u16], book: &mut [u8]) -> u64 {
 }
 
 pub fn price(book: &[u8], route: &[u8], answer: &mut [u16]) -> u64 {
-    unsafe {
-        c::fares_price(book.as_ptr(), book.len(), route.as_ptr(), route.len(), answer.as_mut_ptr(), answer.len())
-    }
+    unsafe { c::fares_price(book.as_ptr(), book.len(), route.as_ptr(), route.len(), answer.as_mut_ptr(), answer.len()) }
 }
 
 pub fn cheapest(book: &[u8], from: Station, to: Station, limit: u8, answer: &mut [u16]) -> u64 {

@@ -13,6 +13,8 @@ pub enum Kind {
     Rows,
     /// Anything in between.
     Middling,
+    /// 16 companies of 40 stations and few links: long lists that are soon made.
+    Sparse,
     /// 16 companies of 40 stations, 128 links, 32 rules: links spread at random.
     Spread,
     /// The same, with all links between two companies.
@@ -33,7 +35,7 @@ pub fn sheet(kind: Kind, random: &mut Random) -> Vec<u16> {
         Kind::Loops => (random.between(2, 3), 3, 5),
         Kind::Rows => (random.between(2, 4), 2, 5),
         Kind::Middling => (random.between(1, 9), 2, 14),
-        Kind::Spread | Kind::TwoCompanies => (16, 40, 40),
+        Kind::Sparse | Kind::Spread | Kind::TwoCompanies => (16, 40, 40),
     };
     let sizes: Vec<usize> = (0..companies).map(|_| random.between(low, high)).collect();
     let tables = sizes.iter().map(|&n| table(kind, n, random)).collect();
@@ -89,17 +91,19 @@ fn fare(kind: Kind, random: &mut Random) -> u16 {
         Kind::Loops => random.between(300, 700),
         Kind::Rows => 100 + random.pick(&[0, 0, 0, 10]),
         Kind::Middling => random.pick(&[1, 50, 9_999, 120, 400, 999]),
-        Kind::Spread | Kind::TwoCompanies => random.between(1, 9_999),
+        Kind::Sparse | Kind::Spread | Kind::TwoCompanies => random.between(1, 9_999),
     }) as u16
 }
 
 fn links(kind: Kind, sizes: &[usize], random: &mut Random) -> Vec<[u16; 4]> {
-    let most: usize = (0..sizes.len()).flat_map(|a| (a + 1..sizes.len()).map(move |b| (a, b))).map(|(a, b)| sizes[a] * sizes[b]).sum();
+    let most: usize =
+        (0..sizes.len()).flat_map(|a| (a + 1..sizes.len()).map(move |b| (a, b))).map(|(a, b)| sizes[a] * sizes[b]).sum();
     let wanted = match kind {
         Kind::Tiny => random.between(0, 10),
         Kind::Loops => random.between(3, 16),
         Kind::Rows => random.between(6, 24),
         Kind::Middling => random.between(0, 60),
+        Kind::Sparse => 12,
         Kind::Spread | Kind::TwoCompanies => 128,
     };
     let mut links: Vec<[u16; 4]> = Vec::new();
@@ -134,7 +138,15 @@ fn rule(kind: Kind, made: &Made, random: &mut Random) -> Vec<u16> {
         let linked: Vec<u16> = made
             .links
             .iter()
-            .filter_map(|l| if l[0] == last { Some(l[2]) } else if l[2] == last { Some(l[0]) } else { None })
+            .filter_map(|l| {
+                if l[0] == last {
+                    Some(l[2])
+                } else if l[2] == last {
+                    Some(l[0])
+                } else {
+                    None
+                }
+            })
             .collect();
         let next = if linked.is_empty() || random.chance(5) {
             random.between(0, made.sizes.len() - 1) as u16
@@ -163,7 +175,7 @@ fn amount(kind: Kind, random: &mut Random) -> u16 {
         Kind::Loops => random.between(300, 999),
         Kind::Rows => random.pick(&[10, 20, 20, 30, 40]),
         Kind::Middling => random.pick(&[1, 20, 100, 998, 999]),
-        Kind::Spread | Kind::TwoCompanies => random.between(1, 999),
+        Kind::Sparse | Kind::Spread | Kind::TwoCompanies => random.between(1, 999),
     }) as u16
 }
 

@@ -1,6 +1,7 @@
 //! A call of the proved library beside the plain one: the answer, the place, and all lent memory afterwards.
 
 use crate::lent::Lent;
+use crate::lister;
 use crate::random::Random;
 use fares::{Paid, Refusal};
 
@@ -71,7 +72,9 @@ impl Calls {
             && lent.holds(written(&want))
             && kept == book
             && kept_route == route;
-        self.count(right, number(&want), || format!("price into {room} of {route:?} in {} gave {got:?}, not {want:?}", hex(book)));
+        self.count(right, number(&want), || {
+            format!("price into {room} of {route:?} in {} gave {got:?}, not {want:?}", hex(book))
+        });
     }
 
     /// Gives back what the plain one answers.
@@ -96,6 +99,22 @@ impl Calls {
         });
         answer
     }
+
+    /// Compares the pair lister's whole output with these lines.
+    pub fn list(&mut self, input: &[u8], want: &str) {
+        let got = lister::list(input);
+        let right = got.as_ref().is_some_and(|lines| lines == want.as_bytes());
+        self.count(right, refused(want), || {
+            let got = got.map(|lines| String::from_utf8_lossy(&lines).into_owned());
+            format!("the lister on {} gave {got:?}, not {want:?}", hex(input))
+        });
+    }
+}
+
+/// The number of the refusal that the lister's lines tell.
+fn refused(lines: &str) -> u8 {
+    let told = lines.strip_prefix("refused ").and_then(|rest| rest.split(' ').next());
+    told.map_or(0, |number| number.parse().unwrap())
 }
 
 fn number<T>(result: &Result<T, plain::Refusal>) -> u8 {

@@ -1,5 +1,6 @@
 //! Books and sheets that are damaged, by a byte or by design.
 
+use crate::inputs::JUDGED;
 use crate::random::Random;
 
 /// Does something to a book that may make it bad.
@@ -31,6 +32,17 @@ pub fn book(book: &mut Vec<u8>, random: &mut Random) {
             book[at] = random.next() as u8;
         }
     }
+}
+
+/// Makes a company's n bad, and lets its body and the book end where the judging of the lister's input ends, or about there: by
+/// how much is judged, the company is refused for its n or for its end.
+pub fn cut_in_body(book: &mut Vec<u8>, random: &mut Random) {
+    let company = random.between(0, book[1] as usize - 1);
+    let (offset, _) = body(book, company).expect("the book is good");
+    let length = (JUDGED + random.pick(&[0, 1, 2, 14]) - 1 - offset) as u16;
+    book[6 + 4 * company..][..2].copy_from_slice(&length.to_le_bytes());
+    book[offset] = random.pick(&[0, 1, 41, 255]);
+    book.resize(JUDGED + random.pick(&[0, 1, 2, 15, 70_000]) - 1, 0);
 }
 
 fn nudge(part: &mut [u8], random: &mut Random) {

@@ -2,8 +2,9 @@
 
 use crate::books::{self, Kind};
 use crate::calls::Calls;
+use crate::inputs::{self, JUDGED};
 use crate::random::Random;
-use crate::{damage, journeys};
+use crate::{damage, journeys, lister};
 use std::time::Instant;
 
 /// What the cases were, so that a reader sees that the hard ones are among them.
@@ -17,6 +18,11 @@ struct Tally {
     overlap: u64,
     tie: u64,
     greedy: u64,
+    listed: u64,
+    lines: u64,
+    long: u64,
+    cut: u64,
+    vectors: u64,
 }
 
 pub struct Run {
@@ -168,13 +174,56 @@ impl Run {
 
     /// Three questions of four rides in a largest book whose links all lie between two companies: the dearest of all.
     pub fn dearest(&mut self) {
-        let sheet = books::sheet(Kind::TwoCompanies, &mut self.random);
-        let bytes = plain::write(&sheet, usize::MAX).unwrap();
+        let bytes = self.good_book(Kind::TwoCompanies);
         let book = plain::parse(&bytes).unwrap();
         for _ in 0..3 {
             let from = journeys::linked_station(&book, &mut self.random);
             let to = journeys::linked_station(&book, &mut self.random);
             let _ = self.calls.cheapest(&bytes, from, to, 4, WHOLE_ANSWER, &mut self.random);
+        }
+    }
+
+    /// The pair lister's whole output: on what is known, on inputs made of so many small books, and on some of more stations.
+    pub fn lists(&mut self, small: usize) {
+        self.list(&[]);
+        for book in inputs::examples() {
+            self.list(&book);
+        }
+        let vectors = inputs::vectors(&lister::root().join("../shared/vectors"));
+        if vectors.is_empty() {
+            eprintln!("no vectors at ../shared/vectors: the lister is not compared with them");
+        }
+        for (book, lines) in vectors {
+            self.list(&book);
+            self.calls.list(&book, &lines);
+            self.tally.vectors += 1;
+        }
+        for _ in 0..small {
+            let kind = self.random.pick(&[Kind::Tiny, Kind::Loops, Kind::Rows]);
+            let book = self.good_book(kind);
+            for input in inputs::of_book(&book, &mut self.random) {
+                self.list(&input);
+            }
+        }
+        for kind in [Kind::Middling, Kind::Middling, Kind::Middling, Kind::Sparse] {
+            let book = self.good_book(kind);
+            self.list(&book);
+        }
+    }
+
+    fn good_book(&mut self, kind: Kind) -> Vec<u8> {
+        let sheet = books::sheet(kind, &mut self.random);
+        plain::write(&sheet, usize::MAX).expect("a sheet that was made is good")
+    }
+
+    fn list(&mut self, input: &[u8]) {
+        let lines = plain::list(input);
+        self.calls.list(input, &lines);
+        self.tally.listed += 1;
+        self.tally.lines += lines.lines().count() as u64;
+        if input.len() > JUDGED {
+            self.tally.long += 1;
+            self.tally.cut += (plain::judge(input) != plain::judge(&input[..JUDGED])) as u64;
         }
     }
 
@@ -184,9 +233,19 @@ impl Run {
         }
         let t = &self.tally;
         println!("{} cases compared, {} wrong", self.calls.cases, self.calls.wrong.len());
-        println!("  books: {} good, {} damaged; the largest among them: {} books, {} cases", t.books, t.damaged, t.largest, t.largest_cases);
+        println!(
+            "  books: {} good, {} damaged; the largest among them: {} books, {} cases",
+            t.books, t.damaged, t.largest, t.largest_cases
+        );
         println!("  questions where a route that comes back to a station would be cheaper: {}", t.looped);
-        println!("  routes where discounts overlap: {}, tie: {}, and where the largest first would earn less: {}", t.overlap, t.tie, t.greedy);
+        println!(
+            "  routes where discounts overlap: {}, tie: {}, and where the largest first would earn less: {}",
+            t.overlap, t.tie, t.greedy
+        );
+        println!(
+            "  inputs of the pair lister: {}, {} lines; over 65,536 bytes: {}, of which the rest would change the answer: {}; vectors: {}",
+            t.listed, t.lines, t.long, t.cut, t.vectors
+        );
         let refused: Vec<String> = (1..15).map(|n| format!("{n}: {}", self.calls.refused[n])).collect();
         println!("  refusals, by number: {}", refused.join(", "));
     }

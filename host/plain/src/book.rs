@@ -121,9 +121,8 @@ pub fn judge_table(table: &[Vec<u16>], place: impl Fn(usize) -> usize) -> Result
 /// All of 7. The numbers are a sheet's, so that one that is too large for a byte is seen.
 pub fn judge_links(sizes: &[usize], links: &[[u16; 4]]) -> Result<(), Refusal> {
     for (i, link) in links.iter().enumerate() {
-        let exists = |company: u16, station: u16| {
-            (company as usize) < sizes.len() && (station as usize) < sizes[company as usize]
-        };
+        let exists =
+            |company: u16, station: u16| (company as usize) < sizes.len() && (station as usize) < sizes[company as usize];
         let good = link[0] < link[2] && exists(link[0], link[1]) && exists(link[2], link[3]);
         if !good || links[..i].contains(link) {
             return refuse(7, i);

@@ -146,7 +146,12 @@ fn measure(bench: &Bench, name: &str, kind: Kind) {
     println!("{name}: {} bytes, {} numbers", bytes.len(), sheet.len());
     println!("  {:<34} {:>12} {:>12} {:>8}", "", "proved", "plain", "ratio");
     let many = 1_000_000;
-    bench.both("judge", |_| _ = black_box(fares::check(black_box(&bytes))), |_| _ = black_box(plain::judge(black_box(&bytes))), many);
+    bench.both(
+        "judge",
+        |_| _ = black_box(fares::check(black_box(&bytes))),
+        |_| _ = black_box(plain::judge(black_box(&bytes))),
+        many,
+    );
     let mut lent_sheet = vec![0; fares::LONGEST_SHEET];
     bench.both(
         "read",

@@ -1,16 +1,11 @@
 //! Holds the plain implementation to stored vectors, a case a line: `vectors FOLDER`.
 
+use check::inputs::{self, bytes};
 use std::fs;
 use std::path::Path;
 
-fn bytes(word: &str) -> Vec<u8> {
-    let word = if word == "-" { "" } else { word };
-    (0..word.len()).step_by(2).map(|i| u8::from_str_radix(&word[i..i + 2], 16).unwrap()).collect()
-}
-
 fn numbers(word: &str) -> Vec<u16> {
-    let word = if word == "-" { "" } else { word };
-    (0..word.len()).step_by(4).map(|i| u16::from_str_radix(&word[i..i + 4], 16).unwrap()).collect()
+    bytes(word).chunks(2).map(|two| u16::from_be_bytes([two[0], two[1]])).collect()
 }
 
 fn told<T>(result: Result<T, plain::Refusal>, good: impl Fn(T) -> String) -> String {
@@ -57,14 +52,11 @@ fn main() {
             }
         }
     }
-    for entry in fs::read_dir(folder.join("pairs")).unwrap() {
-        let path = entry.unwrap().path();
-        if path.extension().is_some_and(|e| e == "book") {
-            cases += 1;
-            if plain::list(&fs::read(&path).unwrap()) != fs::read_to_string(path.with_extension("list")).unwrap() {
-                wrong += 1;
-                println!("{}", path.display());
-            }
+    for (book, lines) in inputs::vectors(folder) {
+        cases += 1;
+        if plain::list(&book) != lines {
+            wrong += 1;
+            println!("pairs: {book:02x?} gave other lines");
         }
     }
     println!("{cases} vectors, {wrong} wrong");
