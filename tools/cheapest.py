@@ -3,12 +3,12 @@
 What it is for. The crate `search` finds the cheapest route and is proved to
 meet its definitions. This file says the same from document 01's words alone:
 it makes every admissible route from a station within the limit, prices each,
-and takes the least. So the stored answers of the program `asking` do not come
+and takes the least. So the stored answers of the program `stored` do not come
 from the code that they test. It shares nothing with the crates.
 
 How to run it. From the repository's root:
 
-    python3 tools/cheapest.py < crates/asking/stdin
+    sed -n s/^q//p crates/stored/stdin | grep -v '<' | python3 tools/cheapest.py
 
 Standard input has a book and a question a line, two hex digits a byte, `-`
 for none. A question is five bytes: company and station of both ends, and the

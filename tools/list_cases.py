@@ -1,24 +1,16 @@
-"""Write what the programs `listed` and `pairs` are run on in the gate, and what they must print.
+"""Books to list: the cases `l` of the program `stored`.
 
-What it is for. It makes the cases that tools/stored.py stores for `listed`,
-which lists one book after the other, and for `pairs`, which lists one: book Q.
-No line comes from the crates: those of the vectors are the vectors' own, the
-twelve of document 01 are written below, and all others come from
-tools/pairs.py, once it agrees with every line told.
-
-How to run it. From the repository's root, with the folder of the vectors:
-
-    python3 tools/list_cases.py ../shared/vectors/pairs
-
-It prints how many books it wrote.
+Their lines are the vectors', the twelve of document 01, which stand below, and
+those of tools/pairs.py. tools/stored.py writes them.
 """
 
+import itertools
 import os
 
 import examples
-import stored
 from examples import changed
 from pairs import pairs
+from told import cases as told_cases
 
 TWELVE_LINES = """\
 0 0 0 1 130 1
@@ -42,7 +34,7 @@ def bytes_in(folder, name):
         return data.read()
 
 
-def vectors(folder):
+def told_lists(folder):
     """The books of the vectors, with their lines."""
     for name in sorted(os.listdir(folder)):
         if name.endswith(".book"):
@@ -63,17 +55,7 @@ def of_refused_books():
     yield changed(q, 106, [5])  # rule 1 for five companies
 
 
-def main():
-    told = list(vectors(stored.only_argument(__doc__))) + [((examples.two_companies(),), TWELVE_LINES)]
-    stored.agree(told, pairs)
-    others = [examples.spring()] + list(of_refused_books())
-    cases = told + [((book,), pairs(book)) for book in others]
-    said = [line for _, lines in cases for line in lines.splitlines()]
-    stored.write_lines("listed", [stored.line_asked(asked) for asked, _ in cases], said)
-    q = examples.q()
-    stored.write("pairs", q, pairs(q).encode("ascii"))
-    print("%d books, of which %d are vectors or stand in the outline" % (len(cases), len(told)))
-
-
-if __name__ == "__main__":
-    main()
+def cases(folder):
+    """Lines, with what is said to each."""
+    told = list(told_lists(os.path.join(folder, "pairs"))) + [((examples.two_companies(),), TWELVE_LINES)]
+    return told_cases("l", told, pairs, ((book,) for book in itertools.chain([examples.spring()], of_refused_books())))

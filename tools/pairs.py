@@ -3,7 +3,7 @@
 What it is for. The program `pairs` lists the fares between all stations of a
 book. This file says the same from document 01's words alone, by
 tools/cheapest.py, so that the stored lines of the programs `pairs` and
-`listed` do not come from the code that they test. It shares nothing with the
+`stored` do not come from the code that they test. It shares nothing with the
 crates.
 
 How to run it. From the repository's root:

@@ -3,12 +3,12 @@
 What it is for. The crate `price` prices a given route and is proved to meet
 its definitions. This file says the same from document 01's words alone, by
 trying every selection of runs, so that the stored answers of the program
-`pricing` do not come from the code that they test. It shares nothing with the
+`stored` do not come from the code that they test. It shares nothing with the
 crates.
 
 How to run it. From the repository's root:
 
-    python3 tools/price.py < crates/pricing/stdin
+    sed -n s/^p//p crates/stored/stdin | grep -v '<' | python3 tools/price.py
 
 Standard input has a book and a route a line, two hex digits a byte, `-` for
 none. Standard output has one answer a line: `fare F rides N`, then for each

@@ -1,24 +1,18 @@
-"""Write what the program `pricing` is run on in the gate, and what it must print.
+"""Routes to price: the cases `p` of the program `stored`.
 
-What it is for. It makes the cases that tools/stored.py stores for `pricing`. No
-answer comes from the crates: those of the vectors are the vectors' own, those
-that document 01 names are written below, and all others come from
-tools/price.py, once it agrees with every vector and every answer below.
-
-How to run it. From the repository's root, with the path of the vectors:
-
-    python3 tools/price_cases.py ../shared/vectors/routes.txt
-
-It prints how many cases it wrote.
+Their answers are the vectors', those that follow from document 01 by hand,
+which stand below, and those of tools/price.py. tools/stored.py writes them.
 """
 
 import itertools
+import os
 import random
 
 import examples
-import stored
 from examples import book, both_ways, rule
 from price import price
+from told import cases as told_cases
+from told import vectors
 
 
 def line(fares, rules):
@@ -118,10 +112,7 @@ def of_rules(seed, count):
         yield line(fares, rules), along(rng.choice((3, 4, 4, 4)))
 
 
-def main():
-    told = itertools.chain(stored.vectors(stored.only_argument(__doc__)), of_the_outline())
-    stored.store("pricing", told, price, itertools.chain(of_book_q(), of_refused_books(), of_rules(4, 300)))
-
-
-if __name__ == "__main__":
-    main()
+def cases(folder):
+    """Lines, with what is said to each."""
+    told = itertools.chain(vectors(os.path.join(folder, "routes.txt")), of_the_outline())
+    return told_cases("p", told, price, itertools.chain(of_book_q(), of_refused_books(), of_rules(4, 300)))

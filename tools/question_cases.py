@@ -1,23 +1,17 @@
-"""Write what the program `asking` is run on in the gate, and what it must print.
+"""Questions: the cases `q` of the program `stored`.
 
-What it is for. It makes the cases that tools/stored.py stores for `asking`. No
-answer comes from the crates: those of the vectors are the vectors' own, those
-that document 01 names are written below, and all others come from
-tools/cheapest.py, once it agrees with every vector and every answer below.
-
-How to run it. From the repository's root, with the path of the vectors:
-
-    python3 tools/question_cases.py ../shared/vectors/questions.txt
-
-It prints how many cases it wrote.
+Their answers are the vectors', document 01's, which stand below, and those of
+tools/cheapest.py. tools/stored.py writes them.
 """
 
 import itertools
+import os
 
 import examples
-import stored
 from cheapest import cheapest
 from judge import book_of
+from told import cases as told_cases
+from told import vectors
 
 
 def of_the_outline():
@@ -67,10 +61,7 @@ def asked_of(words):
     return book_of(digits), bytes(map(int, question))
 
 
-def main():
-    told = itertools.chain(stored.vectors(stored.only_argument(__doc__), asked_of), of_the_outline())
-    stored.store("asking", told, cheapest, itertools.chain(of_all_pairs(), of_refused_books()))
-
-
-if __name__ == "__main__":
-    main()
+def cases(folder):
+    """Lines, with what is said to each."""
+    told = itertools.chain(vectors(os.path.join(folder, "questions.txt"), asked_of), of_the_outline())
+    return told_cases("q", told, cheapest, itertools.chain(of_all_pairs(), of_refused_books()))

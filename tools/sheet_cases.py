@@ -1,32 +1,20 @@
-"""Write what the program `sheets` is run on in the gate, and what it must print.
+"""Books to read and sheets to write: the cases `r` and `w` of the program `stored`.
 
-What it is for. It makes the cases that tools/stored.py stores for `sheets`.
-No answer comes from the crates: all come from tools/judge.py and
-tools/sheet.py, once these two agree with every vector.
-
-How to run it. From the repository's root, with the path of the vectors:
-
-    python3 tools/sheet_cases.py ../shared/vectors
-
-It prints how many cases it wrote. The form of a case stands at the head of
-crates/sheets/src/main.rt.
+Their answers are those of tools/judge.py and tools/sheet.py, once these agree
+with every vector. tools/stored.py writes them.
 """
 
 import os
 import zlib
 
 import examples
-import stored
 from examples import both_ways, rule
 from judge import answer, judge, verdict
 from sheet import book_of, judge_sheet, sheet_of
+from told import agree, digits_of, vectors
 
 # What stands in a lent list before anything is written.
 BYTE = 165
-
-# A list of more bytes is written with repeats, so that what git keeps stays small.
-LONG = 32
-
 
 def numbers_of(data):
     """A sheet's numbers from bytes, the high byte first, as a line of the input has them."""
@@ -41,30 +29,6 @@ def big(numbers):
 def little(numbers):
     """A sheet's numbers as bytes, the low byte first, as the sum takes them."""
     return b"".join(x.to_bytes(2, "little") for x in numbers)
-
-
-def repeats(data):
-    """Hex digits, with `<D,L>` for bytes that came before."""
-    out, at, seen = [], 0, {}
-    while at < len(data):
-        key = data[at : at + 8]
-        before = seen.get(key)
-        long = 0
-        while before is not None and at + long < len(data) and data[before + long] == data[at + long]:
-            long += 1
-        if long < 16:
-            long = 1
-            out.append("%02x" % data[at])
-        else:
-            out.append("<%d,%d>" % (at - before, long))
-        for i in range(at, at + long):
-            seen[data[i : i + 8]] = i
-        at += long
-    return "".join(out)
-
-
-def digits_of(data):
-    return repeats(data) if len(data) > LONG else data.hex()
 
 
 def lines(kind, given, refusal, result, unit):
@@ -138,22 +102,17 @@ def written(sheet):
     return book_of(numbers).hex()
 
 
-def main():
-    folder = stored.only_argument(__doc__)
-    told_books, told_sheets = (list(stored.vectors(os.path.join(folder, name))) for name in ("books.txt", "sheets.txt"))
-    stored.agree(told_books, verdict)
-    stored.agree(told_sheets, written)
+def cases(folder):
+    """Lines, with what is said to each."""
+    told_books, told_sheets = (list(vectors(os.path.join(folder, name))) for name in ("books.txt", "sheets.txt"))
+    agree(told_books, verdict)
+    agree(told_sheets, written)
     assert len(sheet_of(examples.q())) == 99
     assert len(longest()) == 52860 and len(sheet_of(longest())) == 27155
-    cases = {}
+    found = {}
     for book in [book for (book,), _ in told_books] + [b"", examples.q(), examples.two_companies(), longest()]:
-        cases.update(of_book(book))
+        found.update(of_book(book))
     sheets = [numbers_of(sheet) for (sheet,), _ in told_sheets] + [sheet_of(examples.q()), sheet_of(longest())]
     for numbers in sheets + list(of_limits()):
-        cases.update(of_sheet(numbers))
-    stored.write_lines("sheets", cases, cases.values())
-    print("%d cases" % len(cases))
-
-
-if __name__ == "__main__":
-    main()
+        found.update(of_sheet(numbers))
+    return found

@@ -1,60 +1,30 @@
-"""The stored cases of a program: what the gate runs it on, and what it must print.
+"""Write what the programs `stored` and `pairs` are run on in the gate, and what they must print.
 
-What it is for. `rt ci` runs a program on crates/PROGRAM/stdin and compares
-what it prints with crates/PROGRAM/stdout. One script for each program makes
-its cases; what those scripts share stands here.
+What it is for. `rt ci` runs a program on crates/PROGRAM/stdin and compares what
+it prints with crates/PROGRAM/stdout. No answer comes from the crates: those of
+the vectors are the vectors' own, those that document 01 names are written in
+the scripts *_cases.py, and all others come from tools/judge.py, sheet.py,
+price.py, cheapest.py and pairs.py, once these agree with every answer told.
 
-How to use it, from another script. A case is what is asked, a tuple of byte
-strings, and what is said to it, a line. `vectors(path)` gives the cases of a
-file of vectors; `store(program, told, find, others)` stores cases whose
-answers are told and others that `find` answers; `write` and `write_lines`
-write the two files.
+How to run it. From the repository's root, with the folder of the vectors:
+
+    python3 tools/stored.py ../shared/vectors
+
+It prints how many cases of each sort it wrote.
 """
 
 import os
 import sys
 
-from examples import line_of
-from judge import book_of
+import examples
+import judge_cases
+import list_cases
+import price_cases
+import question_cases
+import sheet_cases
+from pairs import pairs
 
 ROOT = os.path.dirname(os.path.dirname(os.path.abspath(__file__)))
-
-
-def only_argument(use):
-    """The one argument of a script, which else says its use."""
-    if len(sys.argv) != 2:
-        sys.exit(use)
-    return sys.argv[1]
-
-
-def bytes_asked(words):
-    """What is asked where each word has hex digits."""
-    return tuple(map(book_of, words))
-
-
-def vectors(path, asked_of=bytes_asked):
-    """The cases of a file of vectors."""
-    with open(path, encoding="ascii") as lines:
-        for line in lines:
-            words, said = line.rstrip("\n").split(" = ")
-            yield asked_of(words.split(" ")), said
-
-
-def line_asked(asked):
-    """What is asked as a line of hex digits."""
-    return " ".join(map(line_of, asked))
-
-
-def agree(told, find):
-    """Ends the script where `find` says other than was told."""
-    wrong = 0
-    for asked, said in told:
-        found = find(*asked)
-        if found != said:
-            wrong += 1
-            print("%s: told %s, found %s" % (line_asked(asked), said, found))
-    if wrong:
-        sys.exit("%d answers differ: nothing is written" % wrong)
 
 
 def write(program, asked, said):
@@ -64,19 +34,19 @@ def write(program, asked, said):
             out.write(data)
 
 
-def write_lines(program, asked, said):
-    """Writes what a program is run on and what it must print, each as lines."""
-    write(program, *("".join(line + "\n" for line in lines).encode("ascii") for lines in (asked, said)))
+def main():
+    if len(sys.argv) != 2:
+        sys.exit(__doc__)
+    asked, said = [], []
+    for script in (judge_cases, sheet_cases, price_cases, question_cases, list_cases):
+        cases = script.cases(sys.argv[1])
+        print("%s: %d cases" % (script.__name__, len(cases)))
+        asked += cases.keys()
+        said += cases.values()
+    write("stored", *("".join(line.rstrip("\n") + "\n" for line in lines).encode("ascii") for lines in (asked, said)))
+    q = examples.q()
+    write("pairs", q, pairs(q).encode("ascii"))
 
 
-def store(program, told, find, others):
-    """Stores what was told, once `find` says the same, and what `find` says to the others."""
-    told = list(told)
-    agree(told, find)
-    cases = {line_asked(asked): said for asked, said in told}
-    for asked in others:
-        line = line_asked(asked)
-        if line not in cases:
-            cases[line] = find(*asked)
-    write_lines(program, cases, cases.values())
-    print("%d cases, of which %d are vectors or follow from the outline by hand" % (len(cases), len(told)))
+if __name__ == "__main__":
+    main()

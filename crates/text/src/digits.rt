@@ -1,7 +1,7 @@
 // Bytes out of their hex digits.
 ghost use mathlib.Core.Path.{_≡_};
 ghost use Prim.Native.Nat.{_+_, _/_, _≤_};
-ghost use lib.ListN.{take};
+ghost use lib.ListN.{take, drop};
 ghost use Rattle.text.specs.Digits.{ValueOf};
 
 // The value of a hex digit; 16 of any other byte.
@@ -52,4 +52,15 @@ pub fn made(bytes: &[u8], count: usize) -> &[u8]
         return &bytes[0..n];
     }
     bytes
+}
+
+// The bytes after those that so many digits make.
+pub fn after(bytes: &[u8], count: usize) -> &[u8]
+    ensures { λ r. ⌜ now r ≡ drop (count / 2) (now (bytes .entry)) ⌝ }
+{
+    let n = count / 2;
+    if n <= bytes.len() {
+        return &bytes[n..];
+    }
+    &bytes[bytes.len()..]
 }

@@ -1,5 +1,4 @@
-// What the programs that run stored cases share: bytes out of hex digits, lines of text, and the line of an answer.
+// Bytes out of hex digits, lines of text, and the line of an answer: what the program of stored cases is made of.
 pub mod answers;
 pub mod digits;
-pub mod fields;
 pub mod lines;
