@@ -1,6 +1,6 @@
 //! Books and sheets that are damaged, by a byte or by design.
 
-use crate::inputs::JUDGED;
+use crate::lister::JUDGED;
 use crate::random::Random;
 
 /// Does something to a book that may make it bad.

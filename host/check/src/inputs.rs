@@ -1,13 +1,10 @@
 //! What the pair lister is run on: books that are known, and inputs made of books at random.
 
 use crate::damage;
-use crate::lister::root;
+use crate::lister::{root, JUDGED};
 use crate::random::Random;
 use std::fs;
 use std::path::{Path, PathBuf};
-
-/// How many bytes of an input are judged.
-pub const JUDGED: usize = 65_536;
 
 /// A good book, the same damaged, each with bytes after it that go on beyond what is judged, and one that is cut in a body.
 pub fn of_book(book: &[u8], random: &mut Random) -> Vec<Vec<u8>> {

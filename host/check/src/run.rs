@@ -2,9 +2,9 @@
 
 use crate::books::{self, Kind};
 use crate::calls::Calls;
-use crate::inputs::{self, JUDGED};
+use crate::lister::{self, JUDGED};
 use crate::random::Random;
-use crate::{damage, journeys, lister};
+use crate::{damage, inputs, journeys};
 use std::time::Instant;
 
 /// What the cases were, so that a reader sees that the hard ones are among them.
