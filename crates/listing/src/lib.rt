@@ -90,15 +90,9 @@ fn put_fare(out: &mut [u8], at: usize, judged: Judged, fare: u16) -> usize
     ensures { λ r. ⌜ Put (now (out .entry)) at (fareField judged fare) (now (out .exit)) r × (r ≤ at + 6) ⌝ }
 {
     match judged {
-        Judged::Good => put_field(out, at, full(fare), b' '),
+        Judged::Good => put_field(out, at, matching::yen(fare), b' '),
         Judged::Refused(_) => put_none(out, at),
     }
-}
-
-fn full(x: u16) -> usize
-    ensures { λ r. ⌜ (r ≡ x) × (r < 65536) ⌝ }
-{
-    x as usize
 }
 
 fn put_answer(out: &mut [u8], at: usize, a: Answer) -> usize

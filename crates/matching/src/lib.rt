@@ -11,7 +11,8 @@ ghost use Rattle.outline.specs.Matching.{sumOf, sameCompanies, permitted, reaso
 ghost use Rattle.routes.specs.Held.{Sized, Held};
 ghost use Rattle.matching.specs.Runs.{runIn, RunAndRule, costReason, endsReason};
 
-fn yen(x: u16) -> usize
+// Yen, to be added up.
+pub fn yen(x: u16) -> usize
     ensures { λ r. ⌜ (r ≡ x) × (r < 65536) ⌝ }
 {
     x as usize

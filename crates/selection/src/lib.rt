@@ -22,12 +22,6 @@ pub struct Selection {
     pub total: usize,
 }
 
-fn wide(x: u16) -> usize
-    ensures { λ r. ⌜ (r ≡ x) × (r < 65536) ⌝ }
-{
-    x as usize
-}
-
 // Of a rule and a later one, number k: the greater saving, then the lower number.
 fn or_rule(held: Payer, k: u8, saving: Saving) -> Payer
     ensures { λ r. ⌜ r ≡ orRule held k saving ⌝ }
@@ -132,7 +126,7 @@ fn or_run(
                 rides,
                 rule,
             };
-            let front = rest.after(run, wide(yen));
+            let front = rest.after(run, matching::yen(yen));
             front.rather_than(held)
         }
     }

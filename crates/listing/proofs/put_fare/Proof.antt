@@ -7,8 +7,8 @@ use Rattle.listing.proofs.put_fare.Tie as tie
 enum-told : tie.Need-enum-told
 enum-told c = search needs
 
-full-requires : tie.Need-full-requires
-full-requires c κs = search needs
+yen-requires : tie.Need-yen-requires
+yen-requires c κs = search needs
 
 put-field-requires : tie.Need-put-field-requires
 put-field-requires c κs = search needs
@@ -24,7 +24,7 @@ same-length c = search needs
 
 returns : tie.Need-returns
 unfolding fareField
-returns c = rw (c .before .before .before .before .before .enum-told .given .1, ← c .before .before .before .full .ensures .0) (c .before .before .put-field .ensures)
+returns c = rw (c .before .before .before .before .before .enum-told .given .1, ← c .before .before .before .yen .ensures .0) (c .before .before .put-field .ensures)
 
 same-length-2 : tie.Need-same-length-2
 same-length-2 c = search needs
@@ -38,7 +38,7 @@ put-fare-spec =
     tie.close
     (tie.spec
     enum-told
-    full-requires
+    yen-requires
     put-field-requires
     enum-told-2
     put-none-requires

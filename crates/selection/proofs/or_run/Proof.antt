@@ -16,8 +16,8 @@ enum-told c = search needs
 enum-known-payer : tie.Need-enum-known-payer
 enum-known-payer c = search needs
 
-wide-requires : tie.Need-wide-requires
-wide-requires c κs = search needs
+yen-requires : tie.Need-yen-requires
+yen-requires c κs = search needs
 
 after-requires : tie.Need-after-requires
 after-requires c κs = search needs
@@ -35,8 +35,8 @@ returns-2 : tie.Need-returns-2
 returns-2 c =
     let s = c .before .before .before .before .before .before .before .before in
     one-pays (earnIn (now (s .args .book)) (s .args .route)) (network (now (s .args .book)) .rules) (s .args .at) (s .args .rides) (s .args .rest) (s .args .held) (s .pre .2) (s .pre .3)
-    _ (c .before .before .before .before .before .before .best-rule .ensures) _ _ (c .before .before .before .before .payer .given .1) (c .before .before .wide .result) (c .before .after .result) (c .rather-than .result)
-    (c .before .before .wide .ensures .0) (c .before .before .wide .ensures .1) (c .before .after .ensures) (c .rather-than .ensures)
+    _ (c .before .before .before .before .before .before .best-rule .ensures) _ _ (c .before .before .before .before .payer .given .1) (c .before .before .yen .result) (c .before .after .result) (c .rather-than .result)
+    (c .before .before .yen .ensures .0) (c .before .before .yen .ensures .1) (c .before .after .ensures) (c .rather-than .ensures)
 
 pub or-run-spec : {M : Type 1} → statement M
 or-run-spec =
@@ -45,7 +45,7 @@ or-run-spec =
     best-rule-requires
     enum-told
     enum-known-payer
-    wide-requires
+    yen-requires
     after-requires
     rather-than-requires
     returns
