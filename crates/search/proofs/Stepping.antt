@@ -6,22 +6,24 @@ use mathlib.Core.Logic.{_⊎_, ⊎-elim}
 use mathlib.Core.List.{List, [], _∷_, _++_}
 use native.Mathlib.Omega.{arith}
 use native.Mathlib.Nat.{eq-or-lt-of-le}
-use lib.ListN.{length}
+use lib.ListN.{length, getD, set}
+use lib.Seq.{getD-set-same, getD-set-other}
 use lib.Dec.{ltb, eqb}
-use borrow.Author.Tests.{eq-eqb, ltb-true, ltb-false}
+use borrow.Author.Tests.{eq-eqb, le-ltb, ltb-true, ltb-false}
 use Rattle.outline.specs.declared.Station.{Station}
+use Rattle.outline.specs.declared.Link.{Link}
 use Rattle.outline.specs.declared.Leg.{Leg}
 use Rattle.outline.specs.declared.Joined.the-variants.{ByLink}
 use Rattle.outline.specs.Network.{Network, joins}
 use Rattle.outline.specs.Routes.{alightedAt, rideAt, isLink}
 use Rattle.outline.specs.declared.Question.{Question}
 use Rattle.outline.specs.Numbers.{mostRides}
-use Rattle.outline.specs.Tests.{either, Within}
+use Rattle.outline.specs.Tests.{both, either, choose, Within}
 use Rattle.outline.specs.Book.{network}
 use Rattle.outline.specs.Valid.{ValidBook}
 use Rattle.outline.specs.Questions.{Joins, Cheapest}
 use Rattle.laws.specs.Rides.{AllGood}
-use Rattle.laws.proofs.Tests.{true-not-false, both-holds, either-first, either-second}
+use Rattle.laws.proofs.Tests.{true-not-false, both-holds, either-first, either-second, either-false}
 use Rattle.laws.proofs.Order.{GoodLinks}
 use Rattle.laws.proofs.Book.{found-link, by-link}
 use Rattle.laws.proofs.Routes.{reached-is}
@@ -35,7 +37,7 @@ use Rattle.cheapest.proofs.Walking.{longer, final-ride, direct-from, over-from,
 use Rattle.best.specs.declared.Best.{Best}
 use Rattle.best.specs.Kept.{Sound, Improves}
 use Rattle.best.proofs.Improving.{improves-none, improves-same, improves-then}
-use Rattle.search.specs.Steps.{Arrived, Toward, Alighted, Ready, beyond, leadsOn, NextLink}
+use Rattle.search.specs.Steps.{Arrived, Toward, Alighted, Ready, beyond, touches, Skip, Skips, leadsOn, NextLink}
 
 -- ---- one ride
 
@@ -128,6 +130,58 @@ pub passed-more : (P : ℕ → Type 0) (from k : ℕ) → ((j : ℕ) → from �
 passed-more P from k p q j h l =
     let le : j ≤ k = omega arith in
     ⊎-elim (λ e. subst P (sym e) q) (λ m. p j h m) (eq-or-lt-of-le le)
+
+pub passed-then : (P : ℕ → Type 0) (from k r : ℕ) → ((j : ℕ) → from ≤ j → j < k → P j) → ((j : ℕ) → k ≤ j → j < r → P j) → (j : ℕ) → from ≤ j → j < r → P j
+passed-then P from k r p q j h l = go (ltb j k) refl
+  where
+    go : (t : Bool) → ltb j k ≡ t → P j
+    go true e = p j h (ltb-true _ _ e)
+    go false e = q j (ltb-false _ _ e) l
+
+-- a link without an end in the goal's company does not lead there by one ride
+untouched : (l : Link) (company : ℕ) (goal : Station) (left : ℕ) → left ≤ 2 → touches l (goal .company) ≡ false → leadsOn l company goal left ≡ false
+unfolding leadsOn touches farEnd choose both either
+untouched l company goal left few none = rw (le-ltb 2 left few) (go (eqb (nearEnd l company .company) company) (eqb (l .one .company) company))
+  where
+    ends : (eqb (l .one .company) (goal .company) ≡ false) × (eqb (l .other .company) (goal .company) ≡ false)
+    ends = either-false (eqb (l .one .company) (goal .company)) (eqb (l .other .company) (goal .company)) none
+
+    go : (t u : Bool) → both t (either false (eqb (choose u (l .other) (l .one) .company) (goal .company))) ≡ false
+    go false u = refl
+    go true true = ends .1
+    go true false = ends .0
+
+-- from where to look on, and that no link before it leads on
+pub skip-later : (N : Network) (goal : Station) (skips : List ℕ) → Skips N (goal .company) skips → (left k r : ℕ) → k ≤ N .links → r ≡ choose (ltb 2 left) k (getD skips k 0)
+    → (k ≤ r) × (r ≤ N .links) × ((company j : ℕ) → k ≤ j → j < r → leadsOn (N .link j) company goal left ≡ false)
+unfolding choose
+skip-later N goal skips s left k r known e = go (ltb 2 left) refl e
+  where
+    go : (t : Bool) → ltb 2 left ≡ t → r ≡ choose t k (getD skips k 0) → (k ≤ r) × (r ≤ N .links) × ((company j : ℕ) → k ≤ j → j < r → leadsOn (N .link j) company goal left ≡ false)
+    go true f same = (omega arith, omega arith, λ company j h l. absurd (omega arith))
+    go false f same =
+        let n = s .next k known in
+        (omega (arith, n .later), omega (arith, n .few), λ company j h l. untouched (N .link j) company goal left (ltb-false 2 left f) (n .passed j h (omega arith)))
+
+pub skip-more : (N : Network) (company k next r : ℕ) → k < N .links → Skip N company (k + 1) next → r ≡ choose (touches (N .link k) company) k next → Skip N company k r
+unfolding choose
+skip-more N company k next r known s e = go (touches (N .link k) company) refl e
+  where
+    go : (t : Bool) → touches (N .link k) company ≡ t → r ≡ choose t k next → Skip N company k r
+    go true f same = record { later = omega arith; few = omega arith; passed = λ j h l. absurd (omega arith) }
+    go false f same = record {
+      later = omega (arith, s .later);
+      few = omega (arith, s .few);
+      passed = λ j h l. ⊎-elim (λ q. subst (λ (i : ℕ). touches (N .link i) company ≡ false) q f) (λ m. s .passed j (omega arith) (omega arith)) (eq-or-lt-of-le h);
+    }
+
+-- one more of the skips is set, the last first
+pub skips-set : (N : Network) (company n : ℕ) (s : List ℕ) (k next : ℕ) → k < length s → ((j : ℕ) → k + 1 ≤ j → j ≤ n → Skip N company j (getD s j 0)) → Skip N company k next
+    → (j : ℕ) → k ≤ j → j ≤ n → Skip N company j (getD (set s k next) j 0)
+skips-set N company n s k next room before new j h l =
+    ⊎-elim (λ e. subst (λ (i : ℕ). Skip N company i (getD (set s k next) i 0)) e (rw (getD-set-same s k next 0 room) new))
+    (λ m. rw (getD-set-other s k j next 0 (λ e. omega arith)) (before j (omega arith) l))
+    (eq-or-lt-of-le h)
 
 module _ (N : Network) (goal : Station) (p : List Leg) (x : Station) (left : ℕ) (links : GoodLinks N) (two : 2 ≤ left) where
   -- a link that a route goes over leads on

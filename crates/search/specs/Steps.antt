@@ -3,7 +3,7 @@ use Prim.Native.Nat.{ℕ, _+_, _-_, _≤_, _<_}
 use mathlib.Core.Path.{_≡_}
 use mathlib.Core.Bool.{Bool, true, false}
 use mathlib.Core.List.{List, [], _∷_, _++_}
-use lib.ListN.{length}
+use lib.ListN.{length, getD}
 use lib.Dec.{ltb, eqb}
 use Rattle.outline.specs.declared.Station.{Station}
 use Rattle.outline.specs.declared.Link.{Link}
@@ -53,6 +53,20 @@ pub record Ready (b : List ℕ) (path : Route) (left : ℕ) (best : Best) : Type
   pub some : 1 ≤ left
   pub room : path .count + left ≤ mostRides
   pub sound : Sound (network b) best
+
+unfoldable pub touches : Link → ℕ → Bool
+touches l company = either (eqb (l .one .company) company) (eqb (l .other .company) company)
+
+-- no link from `from` on and before r has an end in the company
+pub record Skip (N : Network) (company from r : ℕ) : Type 0 where
+  pub later : from ≤ r
+  pub few : r ≤ N .links
+  pub passed : (k : ℕ) → from ≤ k → k < r → touches (N .link k) company ≡ false
+
+-- from which link to look on for one with an end in the company, for each link and for the number of links
+pub record Skips (N : Network) (company : ℕ) (skips : List ℕ) : Type 0 where
+  pub long : N .links < length skips
+  pub next : (k : ℕ) → k ≤ N .links → Skip N company k (getD skips k 0)
 
 -- link l has an end in the company and, where only one ride may follow it, the other end in the goal's company
 unfoldable pub leadsOn : Link → ℕ → Station → ℕ → Bool

@@ -21,7 +21,10 @@ ghost use Rattle.outline.specs.Questions.{questionCheck, Answered, Asked};
 ghost use Rattle.routes.specs.Held.{ridesOf, Sized, Held};
 ghost use Rattle.cheapest.specs.Onward.{From, Direct, nearEnd, farEnd};
 ghost use Rattle.best.specs.Kept.{Improves};
-ghost use Rattle.search.specs.Steps.{Ready, Arrived, Toward, Alighted, beyond, leadsOn, NextLink};
+ghost use Rattle.search.specs.Steps.{Ready, Arrived, Toward, Alighted, beyond, touches, Skips, leadsOn, NextLink};
+ghost use Rattle.outline.specs.Tests.{choose};
+ghost use lib.ListN.{length, getD};
+ghost use lib.Dec.{ltb};
 
 fn near_end(l: Link, company: u8) -> Station
     ensures { λ r. ⌜ r ≡ nearEnd l company ⌝ }
@@ -109,19 +112,62 @@ fn leads_on(l: Link, company: u8, goal: Station, left: usize) -> bool
     far.company == goal.company
 }
 
+// Link k where it has an end in the company, or else the link `next`.
+fn this_or(l: Link, company: u8, k: u8, next: u8) -> u8
+    ensures { λ r. ⌜ r ≡ choose (touches l company) k next ⌝ }
+{
+    let one = l.one;
+    let other = l.other;
+    if one.company == company {
+        return k;
+    }
+    if other.company == company {
+        return k;
+    }
+    next
+}
+
+// Puts for each link, and for the number of links, the next link that has an end in the company: the last ride of a route is reached by one.
+fn put_skips(book: &[u8], company: u8, skips: &mut [u8])
+    requires { ⌜ LaidOut (now book) × (128 < length (now skips)) ⌝ }
+    ensures { λ _. ⌜ Skips (network (now (book .entry))) company (now (skips .exit)) ⌝ }
+{
+    let n = lookup::links(book);
+    let body = lookup::links_body(book);
+    let mut next = n;
+    let mut k = n;
+    skips[wide(n)] = n;
+    while 0 < k {
+        k -= 1;
+        next = this_or(layout::link(body, k), company, k, next);
+        skips[wide(k)] = next;
+    }
+}
+
+// The link from which to look on: where one ride may follow it, the next with an end in the goal's company.
+fn skipped(skips: &[u8], left: usize, k: u8) -> u8
+    requires { ⌜ k < length (now skips) ⌝ }
+    ensures { λ r. ⌜ r ≡ choose (ltb 2 left) k (getD (now (skips .entry)) k 0) ⌝ }
+{
+    if 2 < left {
+        return k;
+    }
+    skips[wide(k)]
+}
+
 // The first link from `from` on that leads on, or the number of links.
-fn next_link(book: &[u8], company: u8, goal: Station, left: usize, from: u8) -> u8
-    requires { ⌜ LaidOut (now book) × (from ≤ network (now book) .links) ⌝ }
+fn next_link(book: &[u8], company: u8, goal: Station, left: usize, from: u8, skips: &[u8]) -> u8
+    requires { ⌜ LaidOut (now book) × (from ≤ network (now book) .links) × Skips (network (now book)) (goal .company) (now skips) ⌝ }
     ensures { λ r. ⌜ NextLink (network (now (book .entry))) company goal left from r ⌝ }
 {
     let n = lookup::links(book);
     let body = lookup::links_body(book);
-    let mut k = from;
+    let mut k = skipped(skips, left, from);
     while k < n {
         if leads_on(layout::link(body, k), company, goal, left) {
             return k;
         }
-        k += 1;
+        k = skipped(skips, left, k + 1);
     }
     n
 }
@@ -144,8 +190,9 @@ fn by_rides(
     goal: Station,
     left: usize,
     best: Best,
+    skips: &[u8],
 ) -> Best
-    requires { ⌜ Ready (now book) path left best × Arrived (network (now book)) (ridesOf path) at link ⌝ }
+    requires { ⌜ Ready (now book) path left best × Arrived (network (now book)) (ridesOf path) at link × Skips (network (now book)) (goal .company) (now skips) ⌝ }
     ensures { λ r. ⌜ Improves (network (now (book .entry))) best r (From (network (now (book .entry))) goal left (ridesOf path) at) ⌝ }
 {
     let mut kept = arrive(book, path, at, link, goal, best);
@@ -153,23 +200,31 @@ fn by_rides(
         return kept;
     }
     let n = lookup::links(book);
-    let mut k = next_link(book, at.company, goal, left, 0);
+    let mut k = next_link(book, at.company, goal, left, 0, skips);
     while k < n {
         let step = to_link(book, path, at, link, k);
         if step.good {
-            kept = by_links(book, step.route, k, goal, left - 1, kept);
+            kept = by_links(book, step.route, k, goal, left - 1, kept, skips);
         }
-        k = next_link(book, at.company, goal, left, k + 1);
+        k = next_link(book, at.company, goal, left, k + 1, skips);
     }
     kept
 }
 
 // Goes on by link k from the station where `path` has alighted, with so many rides left.
-fn by_links(book: &[u8], path: Route, k: u8, goal: Station, left: usize, best: Best) -> Best
-    requires { ⌜ Ready (now book) path left best × Alighted (network (now book)) (ridesOf path) k ⌝ }
+fn by_links(
+    book: &[u8],
+    path: Route,
+    k: u8,
+    goal: Station,
+    left: usize,
+    best: Best,
+    skips: &[u8],
+) -> Best
+    requires { ⌜ Ready (now book) path left best × Alighted (network (now book)) (ridesOf path) k × Skips (network (now book)) (goal .company) (now skips) ⌝ }
     ensures { λ r. ⌜ Improves (network (now (book .entry))) best r (From (network (now (book .entry))) goal left (ridesOf path) (beyond (network (now (book .entry))) (ridesOf path) k)) ⌝ }
 {
-    by_rides(book, path, over(book, path, k), k, goal, left, best)
+    by_rides(book, path, over(book, path, k), k, goal, left, best, skips)
 }
 
 // The cheapest route of a question that is good, on a valid book, with its price.
@@ -177,6 +232,9 @@ pub fn ask(book: &[u8], question: Question) -> Answer
     requires { ⌜ ValidBook (now book) × (questionCheck (network (now book)) question ≡ Good) ⌝ }
     ensures { λ r. ⌜ Answered (network (now (book .entry))) question r ⌝ }
 {
+    let mut table = [0u8; 129];
+    let skips: &mut [u8] = &mut table;
+    put_skips(book, question.to.company, skips);
     let best = by_rides(
         book,
         Route::empty(),
@@ -185,6 +243,7 @@ pub fn ask(book: &[u8], question: Question) -> Answer
         question.to,
         wide(question.limit),
         Best::none(),
+        skips,
     );
     if best.found {
         return answers::answer(book, best.route);

@@ -31,25 +31,25 @@ use Rattle.search.proofs.to_link.Reads as to-link-reads
 use Rattle.search.proofs.+by_links+by_rides.{statement}
 use Rattle.search.proofs.+by_links+by_rides.Tie.{close}
 
-abbrev μ-by-links : Measures 1 by-links-kinds.ps ℕ
+abbrev μ-by-links : Measures 2 by-links-kinds.ps ℕ
 μ-by-links κs a = a .1 .1 .1 .1 .0 + a .1 .1 .1 .1 .0 + 1
 
-abbrev μ-by-rides : Measures 1 by-rides-kinds.ps ℕ
+abbrev μ-by-rides : Measures 2 by-rides-kinds.ps ℕ
 μ-by-rides κs a = a .1 .1 .1 .1 .1 .0 + a .1 .1 .1 .1 .1 .0
 
-abbrev by-links-at : ℕ → In 1 by-links-kinds.ps
-by-links-at t = and 1 by-links-kinds.ps (is 1 by-links-kinds.ps μ-by-links t) by-links.Pre
+abbrev by-links-at : ℕ → In 2 by-links-kinds.ps
+by-links-at t = and 2 by-links-kinds.ps (is 2 by-links-kinds.ps μ-by-links t) by-links.Pre
 
-abbrev by-links-below : ℕ → In 1 by-links-kinds.ps
+abbrev by-links-below : ℕ → In 2 by-links-kinds.ps
 by-links-below t =
-    and 1 by-links-kinds.ps (falls 1 by-links-kinds.ps _<_ μ-by-links t) by-links.Pre
+    and 2 by-links-kinds.ps (falls 2 by-links-kinds.ps _<_ μ-by-links t) by-links.Pre
 
-abbrev by-rides-at : ℕ → In 1 by-rides-kinds.ps
-by-rides-at t = and 1 by-rides-kinds.ps (is 1 by-rides-kinds.ps μ-by-rides t) by-rides.Pre
+abbrev by-rides-at : ℕ → In 2 by-rides-kinds.ps
+by-rides-at t = and 2 by-rides-kinds.ps (is 2 by-rides-kinds.ps μ-by-rides t) by-rides.Pre
 
-abbrev by-rides-below : ℕ → In 1 by-rides-kinds.ps
+abbrev by-rides-below : ℕ → In 2 by-rides-kinds.ps
 by-rides-below t =
-    and 1 by-rides-kinds.ps (falls 1 by-rides-kinds.ps _<_ μ-by-rides t) by-rides.Pre
+    and 2 by-rides-kinds.ps (falls 2 by-rides-kinds.ps _<_ μ-by-rides t) by-rides.Pre
 
 abbrev links-calls : ℕ → by-links-lts.Claims
 links-calls t = (over-reads.Asked, over-reads.Learnt, by-rides-below t, by-rides.Post)
@@ -59,49 +59,49 @@ rides-calls t = (arrive-reads.Asked, arrive-reads.Learnt, links-reads.Asked, lin
 
 by-links-over-requires : (t : ℕ) → by-links-lts.Need-over-requires (links-calls t) (by-links-at t) by-links.Post
 by-links-over-requires t c κs =
-    let s = c .before in
+    let s = c .before .before in
     let r = s .pre .1 in
     (r .0 .valid .laidOut, r .0 .held .sized, r .1)
 
 by-links-by-rides-requires : (t : ℕ) → by-links-lts.Need-by-rides-requires (links-calls t) (by-links-at t) by-links.Post
 by-links-by-rides-requires t c κs =
-    let s = c .before .before in
+    let s = c .before .before .before in
     let r = s .pre .1 in
     let e : s .args .left + s .args .left + 1 ≡ t = s .pre .0 in
     let f : s .args .left + s .args .left < t = omega arith in
-    (f, (r .0, subst (λ (x : Station). Arrived (network (s .args .book .now)) (ridesOf (s .args .path)) x (s .args .k)) (sym (c .over .ensures)) (link-walked _ _ _ (book-links _ (r .0 .valid)) (r .1))))
+    (f, (r .0, subst (λ (x : Station). Arrived (network (s .args .book .now)) (ridesOf (s .args .path)) x (s .args .k)) (sym (c .over .ensures)) (link-walked _ _ _ (book-links _ (r .0 .valid)) (r .1)), r .2))
 
 by-links-returns : (t : ℕ) → by-links-lts.Need-returns (links-calls t) (by-links-at t) by-links.Post
 by-links-returns t c =
-    let s = c .before .before .before in
+    let s = c .before .before .before .before in
     subst (λ (x : Station). Improves (network (s .args .book .now)) (s .args .best) (c .by-rides .result) (From (network (s .args .book .now)) (s .args .goal) (s .args .left) (ridesOf (s .args .path)) x)) (c .before .over .ensures) (c .by-rides .ensures)
 
 abbrev by-rides-Inv-loop : by-rides-lts.InvT-loop
-by-rides-Inv-loop book path at link goal left kept₀ n k₀ kept k = (n ≡ network book .links) × (k ≤ n)
+by-rides-Inv-loop book path at link goal left skips kept₀ n k₀ kept k = (n ≡ network book .links) × (k ≤ n)
     × Improves (network book) kept₀ kept (λ R. Some k (λ i. Over (network book) goal (left - 1) (ridesOf path) at i R))
 
 abbrev by-rides-μ-loop : by-rides-lts.MeasureT-loop
-by-rides-μ-loop book path at link goal left kept₀ n k₀ kept k = n - k
+by-rides-μ-loop book path at link goal left skips kept₀ n k₀ kept k = n - k
 
 by-rides-arrive-requires : (t : ℕ) → by-rides-lts.Need-arrive-requires (rides-calls t) (by-rides-at t) by-rides.Post by-rides-Inv-loop by-rides-μ-loop
 by-rides-arrive-requires t c κs =
-    let r = c .before .pre .1 in
+    let r = c .before .before .pre .1 in
     (record { valid = r .0 .valid; held = r .0 .held; good = r .0 .good; some = omega arith; room = omega (arith, r .0 .room, r .0 .some); sound = r .0 .sound }, r .1)
 
 by-rides-returns : (t : ℕ) → by-rides-lts.Need-returns (rides-calls t) (by-rides-at t) by-rides.Post by-rides-Inv-loop by-rides-μ-loop
 by-rides-returns t c =
-    let r = c .before .before .before .pre .1 in
+    let r = c .before .before .before .before .pre .1 in
     last-step _ _ _ _ _ (book-links _ (r .0 .valid)) (r .0 .good) (r .0 .some) (c .if1 .taken) (c .before .arrive .ensures)
 
 by-rides-links-requires : (t : ℕ) → by-rides-lts.Need-links-requires (rides-calls t) (by-rides-at t) by-rides.Post by-rides-Inv-loop by-rides-μ-loop
-by-rides-links-requires t c κs = (c .before .before .before .pre .1 .0 .valid .laidOut)
+by-rides-links-requires t c κs = c .before .before .before .before .pre .1 .0 .valid .laidOut
 
 by-rides-next-link-requires : (t : ℕ) → by-rides-lts.Need-next-link-requires (rides-calls t) (by-rides-at t) by-rides.Post by-rides-Inv-loop by-rides-μ-loop
-by-rides-next-link-requires t c κs = (c .before .before .before .before .pre .1 .0 .valid .laidOut, omega arith)
+by-rides-next-link-requires t c κs = let r = c .before .before .before .before .before .pre .1 in (r .0 .valid .laidOut, omega arith, r .2)
 
 by-rides-loop-holds : (t : ℕ) → by-rides-lts.Need-loop-holds (rides-calls t) (by-rides-at t) by-rides.Post by-rides-Inv-loop by-rides-μ-loop
 by-rides-loop-holds t c =
-    let s = c .before .before .before .before .before in
+    let s = c .before .before .before .before .before .before in
     let a = s .args in
     let next = c .next-link .ensures in (
       c .before .links .ensures,
@@ -112,7 +112,7 @@ by-rides-loop-holds t c =
 by-rides-to-link-requires : (t : ℕ) → by-rides-lts.Need-to-link-requires (rides-calls t) (by-rides-at t) by-rides.Post by-rides-Inv-loop by-rides-μ-loop
 by-rides-to-link-requires t c κs =
     let l = c .before in
-    let r = c .before .before .before .before .before .before .before .pre .1 in
+    let r = c .before .before .before .before .before .before .before .before .pre .1 in
     ((r .0 .valid, r .0 .held, omega (arith, r .0 .room, r .0 .some), r .1), subst (λ (n : ℕ). l .loop .k < n) (l .loop .inv .0) (c .loop-test .taken))
 
 by-rides-sub-by-links : (t : ℕ) → by-rides-lts.Need-sub-by-links (rides-calls t) (by-rides-at t) by-rides.Post by-rides-Inv-loop by-rides-μ-loop
@@ -120,7 +120,7 @@ by-rides-sub-by-links t c = omega (arith, c .before .before .before .before .bef
 
 by-rides-by-links-requires : (t : ℕ) → by-rides-lts.Need-by-links-requires (rides-calls t) (by-rides-at t) by-rides.Post by-rides-Inv-loop by-rides-μ-loop
 by-rides-by-links-requires t c κs =
-    let s = c .before .before .before .before .before .before .before .before .before in
+    let s = c .before .before .before .before .before .before .before .before .before .before in
     let r = s .pre .1 in
     let w = c .before .to-link .ensures in
     let good = c .if2 .taken in
@@ -139,6 +139,7 @@ by-rides-by-links-requires t c κs =
           sound = c .before .before .before .loop .inv .2 .sound;
         },
         link-reached _ (s .args .goal) _ _ (s .args .left) _ _ w good known,
+        r .2,
       ),
     )
 
@@ -147,7 +148,8 @@ by-rides-add-next-link t c = omega arith
 
 by-rides-next-link-requires-2 : (t : ℕ) → by-rides-lts.Need-next-link-requires-2 (rides-calls t) (by-rides-at t) by-rides.Post by-rides-Inv-loop by-rides-μ-loop
 by-rides-next-link-requires-2 t c κs =
-    (c .before .before .before .before .before .before .before .before .before .pre .1 .0 .valid .laidOut, omega (arith, c .before .before .loop-test .taken, c .before .before .before .loop .inv .0))
+    let r = c .before .before .before .before .before .before .before .before .before .before .pre .1 in
+    (r .0 .valid .laidOut, omega (arith, c .before .before .loop-test .taken, c .before .before .before .loop .inv .0), r .2)
 
 by-rides-loop-less : (t : ℕ) → by-rides-lts.Need-loop-less (rides-calls t) (by-rides-at t) by-rides.Post by-rides-Inv-loop by-rides-μ-loop
 by-rides-loop-less t c = omega (arith, c .before .before .before .loop-test .taken, c .next-link2 .ensures .later)
@@ -155,7 +157,7 @@ by-rides-loop-less t c = omega (arith, c .before .before .before .loop-test .tak
 by-rides-loop-again : (t : ℕ) → by-rides-lts.Need-loop-again (rides-calls t) (by-rides-at t) by-rides.Post by-rides-Inv-loop by-rides-μ-loop
 by-rides-loop-again t c =
     let l = c .before .before .before .before in
-    let s = c .before .before .before .before .before .before .before .before .before .before in
+    let s = c .before .before .before .before .before .before .before .before .before .before .before in
     let a = s .args in
     let N = network (a .book .now) in
     let step = c .before .before .to-link in
@@ -175,7 +177,7 @@ by-rides-loop-again t c =
 by-rides-returns-2 : (t : ℕ) → by-rides-lts.Need-returns-2 (rides-calls t) (by-rides-at t) by-rides.Post by-rides-Inv-loop by-rides-μ-loop
 by-rides-returns-2 t c =
     let l = c .before in
-    let s = c .before .before .before .before .before .before .before in
+    let s = c .before .before .before .before .before .before .before .before in
     let a = s .args in
     let r = s .pre .1 in
     let N = network (a .book .now) in
