@@ -14,7 +14,7 @@ ghost use lib.ListN.{length};
 ghost use Rattle.outline.specs.Book.{network};
 ghost use Rattle.outline.specs.Valid.{ValidBook};
 ghost use Rattle.outline.specs.Questions.{Known};
-ghost use Rattle.outline.specs.Lister.{space, lineFeed, none, digit, decimal, field, fareField, stationFields, answerFields, lineOf, refusedLine};
+ghost use Rattle.outline.specs.Lister.{bytesOfText, lineFeed, digit, decimal, field, fareField, stationFields, answerFields, lineOf, refusedLine};
 ghost use Rattle.listing.specs.Lines.{lineTo, linesTo, linesFrom};
 ghost use Rattle.listing.specs.Putting.{Put};
 
@@ -78,7 +78,7 @@ fn put_station(out: &mut [u8], at: usize, x: Station) -> usize
 
 fn put_none(out: &mut [u8], at: usize) -> usize
     requires { ⌜ at + 6 ≤ length (now out) ⌝ }
-    ensures { λ r. ⌜ Put (now (out .entry)) at (none ++ (space ∷ [])) (now (out .exit)) r × (r ≤ at + 6) ⌝ }
+    ensures { λ r. ⌜ Put (now (out .entry)) at (bytesOfText "none ") (now (out .exit)) r × (r ≤ at + 6) ⌝ }
 {
     let end = put_four(out, at, b'n', b'o', b'n', b'e');
     put_byte(out, end, b' ')

@@ -1,5 +1,7 @@
 -- Document 01, "The pair lister reads a book on standard input and prints": its lines, a byte a character.
 use Prim.Native.Nat.{ℕ, zero, suc, _+_, _/_, _%_}
+use Prim.Native.Char.{code}
+use Prim.Native.String.{String, [] as []ᵗ, _∷_ as _∷ᵗ_}
 use mathlib.Core.Bool.{Bool, not}
 use mathlib.Core.List.{List, [], _∷_, _++_}
 use lib.ListN.{take}
@@ -36,21 +38,19 @@ pairsFrom N x = ofEach (λ y. pairOf x y ∷ []) (those (λ y. not (sameStation 
 unfoldable pub pairs : Network → List Question
 pairs N = ofEach (pairsFrom N) (stationsOf N)
 
--- the characters
+-- a text, a byte a character
+abbrev pub bytesOfText : String → List ℕ
+bytesOfText []ᵗ = []
+bytesOfText (c ∷ᵗ text) = code c ∷ bytesOfText text
+
 abbrev pub space : ℕ
-space = 32
+space = code " "
 
 abbrev pub lineFeed : ℕ
-lineFeed = 10
+lineFeed = code "\n"
 
 abbrev pub digit : ℕ → ℕ
-digit d = 48 + d
-
-abbrev pub none : List ℕ
-none = 110 ∷ 111 ∷ 110 ∷ 101 ∷ []
-
-abbrev pub refused : List ℕ
-refused = 114 ∷ 101 ∷ 102 ∷ 117 ∷ 115 ∷ 101 ∷ 100 ∷ []
+digit d = code "0" + d
 
 -- a number in decimal digits, the highest first, where n digits are enough
 unfoldable pub digitsWithin : ℕ → ℕ → List ℕ
@@ -70,7 +70,7 @@ stationFields x = field (x .company) space ++ field (x .number) space
 
 unfoldable pub fareField : Judged → ℕ → List ℕ
 fareField Good fare = field fare space
-fareField (Refused x) fare = none ++ (space ∷ [])
+fareField (Refused x) fare = bytesOfText "none "
 
 unfoldable pub answerFields : Answer → List ℕ
 answerFields a = fareField (a .judged) (a .fare) ++ field (a .rides) lineFeed
@@ -83,7 +83,7 @@ pairLine N q = lineOf q (foundOf N q)
 
 -- "A refused book gives one line: `refused`, number, place."
 unfoldable pub refusedLine : Refusal → List ℕ
-refusedLine x = (refused ++ (space ∷ [])) ++ (field (numberOf x) space ++ field (placeOf x) lineFeed)
+refusedLine x = bytesOfText "refused " ++ (field (numberOf x) space ++ field (placeOf x) lineFeed)
 
 unfoldable pub linesOf : Judged → Network → List ℕ
 linesOf Good N = ofEach (pairLine N) (pairs N)
