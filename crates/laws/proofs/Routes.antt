@@ -15,7 +15,7 @@ use Rattle.outline.specs.declared.Entry.the-variants.{NotSold, Sold}
 use Rattle.outline.specs.declared.Joined.{Joined}
 use Rattle.outline.specs.declared.Joined.the-variants.{ByLink, NoLink}
 use Rattle.outline.specs.Tests.{either}
-use Rattle.outline.specs.Network.{Network, sameStation, linkBetween}
+use Rattle.outline.specs.Network.{Network, linkBetween}
 use Rattle.outline.specs.Routes.{boardedAt, alightedAt, Exists, Change, rideAt, isSold, exists, isLink, reached, met, meets, repeats, goodNext}
 use Rattle.laws.proofs.Tests.{true-not-false, both-true, both-holds, either-true, either-false, some-false, none-holds}
 use Rattle.laws.proofs.Judging.{other-station}

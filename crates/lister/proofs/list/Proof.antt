@@ -1,8 +1,7 @@
 -- `lister::list` ends, and each row that it puts is one that the book has.
-use Prim.Native.Nat.{_≤_, _<_}
-use mathlib.Core.Path.{_≡_, sym, subst, _∙_}
+use Prim.Native.Nat.{_≤_}
+use mathlib.Core.Path.{sym, subst, _∙_}
 use native.Mathlib.Omega.{arith}
-use denote.Ref.{now}
 use lib.ListN.{length}
 use Rattle.rows.specs.Rows.{Due}
 use Rattle.rows.proofs.Walk.{due-first, due-after, left, left-less}

@@ -1,8 +1,6 @@
 -- `search::leads_on` meets its contract.
 use borrow.Author.Needs.{needs}
 use borrow.Author.Tests.{eq-eqb, ne-eqb, lt-ltb, le-ltb}
-use mathlib.Core.Path.{sym}
-use native.Mathlib.Omega.{arith}
 use Rattle.outline.specs.Tests.{both, either}
 use Rattle.search.specs.Steps.{leadsOn}
 use Rattle.search.proofs.leads_on.Statement.{statement}

@@ -2,7 +2,6 @@
 use borrow.Author.Tests.{eq-eqb, ne-eqb}
 use Rattle.outline.specs.Tests.{choose, either}
 use Rattle.search.specs.Steps.{touches}
-use borrow.Author.Needs.{needs}
 use Rattle.search.proofs.this_or.Statement.{statement}
 use Rattle.search.proofs.this_or.Tie as tie
 

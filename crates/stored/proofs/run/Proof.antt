@@ -1,5 +1,5 @@
 -- `stored::run` meets its contract.
-use mathlib.Core.Logic.{inl, inr}
+use mathlib.Core.Logic.{inr}
 use borrow.Author.Needs.{needs}
 use Rattle.stored.proofs.run.Statement.{statement}
 use Rattle.stored.proofs.run.Tie as tie

@@ -1,6 +1,6 @@
 -- `text::digits::after` meets its contract.
 use Prim.Native.Nat.{_/_, _-_, _≤_}
-use mathlib.Core.Path.{_≡_, sym, _∙_}
+use mathlib.Core.Path.{sym, _∙_}
 use native.Mathlib.Omega.{arith}
 use denote.Ref.{now}
 use lib.ListN.{length, drop, length-drop, drop-of-length-le}
