@@ -14,9 +14,9 @@ use Rattle.outline.specs.Choosing.{orRule, bestRule, rather, withRun, orRun, be
 use Rattle.outline.specs.Price.{runsOf, fareWith, fareOf, belongs, paidBy, placeAt, answerWith, answerOf, refusedAnswer, answerTo, priceOf}
 use Rattle.outline.specs.Questions.{known, questionCheck}
 use Rattle.outline.specs.Listing.{those, ofEach, rides, longer, routesOf, routesWithin, joinsThem, lexLe, noLater, firstOf, answerAmong, foundOf, askedOf}
-use Rattle.outline.specs.Lister.{stationsOf, pairsFrom, pairs, digitsWithin, decimal, field, stationFields, fareField, answerFields, lineOf, pairLine, refusedLine, linesOf, listerOutput}
+use Rattle.outline.specs.Lister.{allStations, pairsFrom, pairs, digitsWithin, decimal, field, stationFields, fareField, answerFields, lineOf, pairLine, refusedLine, linesOf, listerOutput}
 use Rattle.cases.specs.Lines.{example, exampleLines, emptyLine}
 
 pub lines-hold : (listerOutput example ≡ exampleLines) × (listerOutput [] ≡ emptyLine)
-unfolding listerOutput linesOf refusedLine stationsOf pairsFrom pairs digitsWithin decimal field stationFields fareField answerFields lineOf pairLine bytesOf known questionCheck inOrder those ofEach rides longer routesOf routesWithin joinsThem lexLe noLater firstOf answerAmong foundOf askedOf both either choose within allBelow someBelow listOf demand _andThen_ firstBelow fareAt inMap entryOf networkOf sameStation leads joins orElse joinedBelow linkBetween wordAt offsetOf lengthOf endBefore bodyOf words tableOf linkOf ruleOf faresOf network headerCheck companyCheck listCheck endCheck contentsCheck goodEntry entryCheck rowCheck tableCheck tablesCheck goodLink sameLink repeated linkCheck goodCompany goodMap goodMaps goodRule ruleCheck faresCheck entryOffset bookCheck linkAfter routeOf isSold exists isLink reached met meets repeats goodNext rideCheck goodLength routeCheck yenOf sumOf sameCompanies permits permitted unless reasonOf earns yen total orRule bestRule rather withRun orRun bestFrom runsOf fareWith fareOf belongs paidBy placeAt answerWith answerOf refusedAnswer answerTo priceOf
+unfolding listerOutput linesOf refusedLine allStations pairsFrom pairs digitsWithin decimal field stationFields fareField answerFields lineOf pairLine bytesOf known questionCheck inOrder those ofEach rides longer routesOf routesWithin joinsThem lexLe noLater firstOf answerAmong foundOf askedOf both either choose within allBelow someBelow listOf demand _andThen_ firstBelow fareAt inMap entryOf networkOf sameStation leads joins orElse joinedBelow linkBetween wordAt offsetOf lengthOf endBefore bodyOf words tableOf linkOf ruleOf faresOf network headerCheck companyCheck listCheck endCheck contentsCheck goodEntry entryCheck rowCheck tableCheck tablesCheck goodLink sameLink repeated linkCheck goodCompany goodMap goodMaps goodRule ruleCheck faresCheck entryOffset bookCheck linkAfter routeOf isSold exists isLink reached met meets repeats goodNext rideCheck goodLength routeCheck yenOf sumOf sameCompanies permits permitted unless reasonOf earns yen total orRule bestRule rather withRun orRun bestFrom runsOf fareWith fareOf belongs paidBy placeAt answerWith answerOf refusedAnswer answerTo priceOf
 lines-hold = (refl, refl)

@@ -18,7 +18,7 @@ use Rattle.outline.specs.Book.{network, faresOf, companyCount, offsetOf, endBef
 use Rattle.outline.specs.Valid.{LaidOut}
 use Rattle.outline.specs.Judging.{entryCheck, rowCheck, tableCheck, tablesCheck, linkCheck, ruleCheck, faresCheck, bookCheck, entryOffset}
 use Rattle.outline.specs.Sheet.{companiesIn, companyStart, stationsIn, faresIn}
-use Rattle.outline.specs.SheetValid.{Counts, CompanyNumbers, SheetLaidOut}
+use Rattle.outline.specs.SheetValid.{GoodCounts, CompanyNumbers, SheetLaidOut}
 use Rattle.outline.specs.SheetJudging.{countsCheck, numbersCheck, remainderCheck, entryIndex, sheetCheck}
 use Rattle.outline.specs.Routes.{goodLength, routeOf, rideCheck, routeCheck}
 use Rattle.outline.specs.Questions.{questionCheck}
@@ -176,7 +176,7 @@ sheet-places s =
         (names-demand Small _ OutsideLimits _ (omega arith)
         (names-demand Small _ OutsideLimits _ (omega arith) (names-good Small))))
 
-    companies : Counts s → Names Small (firstBelow (numbersCheck s) (companiesIn s))
+    companies : GoodCounts s → Names Small (firstBelow (numbersCheck s) (companiesIn s))
     companies known =
         names-below Small (numbersCheck s) _
         (λ c h. let few = known .companies .to in

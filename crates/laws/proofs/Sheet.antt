@@ -13,7 +13,7 @@ use Rattle.outline.specs.Fares.{Table, fareAt, tableAt, linkAt, ruleAt, noTable
 use Rattle.outline.specs.Refusals.{firstBelow}
 use Rattle.outline.specs.Network.{networkOf}
 use Rattle.outline.specs.Sheet.{countsLength, companiesIn, linksIn, rulesIn, tableNumbers, companyStart, stationsIn, tableIn, fareIndex, linkNumbers, linkStart, linkIn, ruleNumbers, ruleStart, ruleIn, faresIn, networkIn}
-use Rattle.outline.specs.SheetValid.{Counts, CompanyNumbers, SheetLaidOut, ValidSheet}
+use Rattle.outline.specs.SheetValid.{GoodCounts, CompanyNumbers, SheetLaidOut, ValidSheet}
 use Rattle.outline.specs.Judging.{tableCheck}
 use Rattle.outline.specs.SheetJudging.{countsCheck, numbersCheck, remainderCheck, entryIndex, sheetCheck}
 use Rattle.laws.proofs.Tests.{getD-listOf, length-listOf, within-true, within-holds}
@@ -147,7 +147,7 @@ rule-maps-in s at =
 
 -- ---- what is refused and what is valid
 
-pub counts-good : (s : List ℕ) → countsCheck s ≡ Good → Counts s
+pub counts-good : (s : List ℕ) → countsCheck s ≡ Good → GoodCounts s
 unfolding countsCheck
 counts-good s e =
     let s1 = demand-good _ _ _ e in
@@ -161,7 +161,7 @@ counts-good s e =
       rules = leb-true _ _ (s4 .0);
     }
 
-pub counts-holds : (s : List ℕ) → Counts s → countsCheck s ≡ Good
+pub counts-holds : (s : List ℕ) → GoodCounts s → countsCheck s ≡ Good
 unfolding countsCheck
 counts-holds s h =
     demand-holds _ _ _ (le-leb _ _ (h .present))
@@ -189,7 +189,7 @@ numbers-holds s c h =
 pub companies-good : (s : List ℕ) (n : ℕ) → firstBelow (numbersCheck s) n ≡ Good → (c : ℕ) → c < n → CompanyNumbers s c
 companies-good s n e c h = numbers-good s c (first-good (numbersCheck s) n e c h)
 
-pub laid-good : (s : List ℕ) → Counts s → ((c : ℕ) → c < companiesIn s → CompanyNumbers s c) → remainderCheck s ≡ Good → SheetLaidOut s
+pub laid-good : (s : List ℕ) → GoodCounts s → ((c : ℕ) → c < companiesIn s → CompanyNumbers s c) → remainderCheck s ≡ Good → SheetLaidOut s
 unfolding remainderCheck
 laid-good s counts companies e = record { counts = counts; companies = companies; ends = eqb-true _ _ (demand-good _ _ _ e .0) }
 

@@ -20,12 +20,12 @@ use Rattle.outline.specs.Book.{network}
 use Rattle.outline.specs.Judging.{bookCheck}
 use Rattle.outline.specs.Listing.{those, ofEach, foundOf}
 
-abbrev pub stationOf : ℕ → ℕ → Station
-stationOf c i = record { company = c; number = i }
+abbrev pub station : ℕ → ℕ → Station
+station c i = record { company = c; number = i }
 
 -- every station of the book, rising
-unfoldable pub stationsOf : Network → List Station
-stationsOf N = inOrder (λ c. listOf (stationOf c) (N .stations c)) (N .companies)
+unfoldable pub allStations : Network → List Station
+allStations N = inOrder (λ c. listOf (station c) (N .stations c)) (N .companies)
 
 -- "The ride limit is 4."
 abbrev pub pairOf : Station → Station → Question
@@ -33,10 +33,10 @@ pairOf x y = record { from = x; to = y; limit = mostRides }
 
 -- "one line per ordered pair of different stations, from-station outermost, both rising"
 unfoldable pub pairsFrom : Network → Station → List Question
-pairsFrom N x = ofEach (λ y. pairOf x y ∷ []) (those (λ y. not (sameStation x y)) (stationsOf N))
+pairsFrom N x = ofEach (λ y. pairOf x y ∷ []) (those (λ y. not (sameStation x y)) (allStations N))
 
 unfoldable pub pairs : Network → List Question
-pairs N = ofEach (pairsFrom N) (stationsOf N)
+pairs N = ofEach (pairsFrom N) (allStations N)
 
 -- a text, a byte a character
 abbrev pub bytesOfText : String → List ℕ

@@ -9,7 +9,7 @@ use Rattle.outline.specs.Valid.{GoodFares}
 use Rattle.outline.specs.Sheet.{countsLength, companiesIn, linksIn, rulesIn, tableNumbers, companyStart, stationsIn, ruleStart, faresIn}
 
 -- "C, L, R" within "Companies 1 to 16", "Links 0 to 128" and "Rules 0 to 32"
-pub record Counts (s : List ℕ) : Type 0 where
+pub record GoodCounts (s : List ℕ) : Type 0 where
   pub present : countsLength ≤ length s
   pub companies : Within 1 (companiesIn s) mostCompanies
   pub links : linksIn s ≤ mostLinks
@@ -21,7 +21,7 @@ pub record CompanyNumbers (s : List ℕ) (c : ℕ) : Type 0 where
   pub inside : companyStart s c + tableNumbers (stationsIn s c) ≤ length s
 
 pub record SheetLaidOut (s : List ℕ) : Type 0 where
-  pub counts : Counts s
+  pub counts : GoodCounts s
   pub companies : (c : ℕ) → c < companiesIn s → CompanyNumbers s c
   pub ends : ruleStart s (rulesIn s) ≡ length s  -- "It ends exactly there."
 

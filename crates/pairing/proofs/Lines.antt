@@ -7,7 +7,7 @@ use Rattle.outline.specs.declared.Station.{Station}
 use Rattle.outline.specs.Tests.{choose, listOf, inOrder}
 use Rattle.outline.specs.Network.{Network, sameStation}
 use Rattle.outline.specs.Listing.{those, ofEach}
-use Rattle.outline.specs.Lister.{stationOf, stationsOf, pairOf, pairsFrom, pairs, pairLine}
+use Rattle.outline.specs.Lister.{station, allStations, pairOf, pairsFrom, pairs, pairLine}
 
 -- ---- of each item a list, where the items are themselves given by lists
 
@@ -59,20 +59,20 @@ not-chosen true a b = refl
 not-chosen false a b = refl
 
 -- of each station of the network
-each-station : {B : Type 0} (f : Station → List B) (N : Network) → ofEach f (stationsOf N) ≡ inOrder (λ c. inOrder (λ j. f (stationOf c j)) (N .stations c)) (N .companies)
-unfolding stationsOf
-each-station f N = each-in-order f (λ c. listOf (stationOf c) (N .stations c)) (N .companies) ∙ simp each-of-list
+each-station : {B : Type 0} (f : Station → List B) (N : Network) → ofEach f (allStations N) ≡ inOrder (λ c. inOrder (λ j. f (station c j)) (N .stations c)) (N .companies)
+unfolding allStations
+each-station f N = each-in-order f (λ c. listOf (station c) (N .stations c)) (N .companies) ∙ simp each-of-list
 
 pub from-as-put : (N : Network) (x : Station) → ofEach (pairLine N) (pairsFrom N x)
-    ≡ inOrder (λ c. inOrder (λ j. choose (sameStation x (stationOf c j)) [] (pairLine N (pairOf x (stationOf c j)))) (N .stations c)) (N .companies)
+    ≡ inOrder (λ c. inOrder (λ j. choose (sameStation x (station c j)) [] (pairLine N (pairOf x (station c j)))) (N .stations c)) (N .companies)
 unfolding pairsFrom
 from-as-put N x =
-    each-of-each (pairLine N) (λ y. pairOf x y ∷ []) (those (λ y. not (sameStation x y)) (stationsOf N))
-    ∙ each-of-those (λ y. ofEach (pairLine N) (pairOf x y ∷ [])) (λ y. not (sameStation x y)) (stationsOf N)
+    each-of-each (pairLine N) (λ y. pairOf x y ∷ []) (those (λ y. not (sameStation x y)) (allStations N))
+    ∙ each-of-those (λ y. ofEach (pairLine N) (pairOf x y ∷ [])) (λ y. not (sameStation x y)) (allStations N)
     ∙ each-station (λ y. choose (not (sameStation x y)) (ofEach (pairLine N) (pairOf x y ∷ [])) []) N
     ∙ simp (each-one, not-chosen)
 
 pub all-as-put : (N : Network)
-    → ofEach (pairLine N) (pairs N) ≡ inOrder (λ c. inOrder (λ i. ofEach (pairLine N) (pairsFrom N (stationOf c i))) (N .stations c)) (N .companies)
+    → ofEach (pairLine N) (pairs N) ≡ inOrder (λ c. inOrder (λ i. ofEach (pairLine N) (pairsFrom N (station c i))) (N .stations c)) (N .companies)
 unfolding pairs
-all-as-put N = each-of-each (pairLine N) (pairsFrom N) (stationsOf N) ∙ each-station (λ x. ofEach (pairLine N) (pairsFrom N x)) N
+all-as-put N = each-of-each (pairLine N) (pairsFrom N) (allStations N) ∙ each-station (λ x. ofEach (pairLine N) (pairsFrom N x)) N

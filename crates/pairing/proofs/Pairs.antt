@@ -12,7 +12,7 @@ use Rattle.outline.specs.Tests.{Within}
 use Rattle.outline.specs.Network.{Network, sameStation}
 use Rattle.outline.specs.Questions.{GoodQuestion, Answered}
 use Rattle.outline.specs.Listing.{those, foundOf}
-use Rattle.outline.specs.Lister.{stationsOf, pairOf, pairsFrom, pairs}
+use Rattle.outline.specs.Lister.{allStations, pairOf, pairsFrom, pairs}
 use Rattle.cheapest.specs.Items.{In}
 use Rattle.cheapest.proofs.Lists.{of-one, in-those, of-those, in-each, of-each}
 use Rattle.cheapest.proofs.Asking.{different-is}
@@ -20,14 +20,14 @@ use Rattle.cheapest.proofs.Twin.{found-is}
 use Rattle.pairing.proofs.Stations.{station-listed}
 
 -- what is listed from x is a pair of x and another station
-pub from-listed : (N : Network) (x : Station) (q : Question) → In q (pairsFrom N x) ↔ ((y : Station) × In y (stationsOf N) × (x ≡ y → ⊥) × (pairOf x y ≡ q))
+pub from-listed : (N : Network) (x : Station) (q : Question) → In q (pairsFrom N x) ↔ ((y : Station) × In y (allStations N) × (x ≡ y → ⊥) × (pairOf x y ≡ q))
 unfolding pairsFrom In
 from-listed N x q = (tells, λ (y, i, n, e). in-each (λ y. pairOf x y ∷ []) y q _ (in-those (λ y. not (sameStation x y)) y _ i (different-is x y .1 n)) (inl e))
   where
-    tells : In q (pairsFrom N x) → (y : Station) × In y (stationsOf N) × (x ≡ y → ⊥) × (pairOf x y ≡ q)
+    tells : In q (pairsFrom N x) → (y : Station) × In y (allStations N) × (x ≡ y → ⊥) × (pairOf x y ≡ q)
     tells h =
-        let (y, chosen, is) = of-each (λ y. pairOf x y ∷ []) q (those (λ y. not (sameStation x y)) (stationsOf N)) h in
-        let (listed, t) = of-those (λ y. not (sameStation x y)) y (stationsOf N) chosen in
+        let (y, chosen, is) = of-each (λ y. pairOf x y ∷ []) q (those (λ y. not (sameStation x y)) (allStations N)) h in
+        let (listed, t) = of-those (λ y. not (sameStation x y)) y (allStations N) chosen in
         (y, listed, different-is x y .0 t, of-one (pairOf x y) q is)
 
 pub pair-listed : (N : Network) (q : Question) → In q (pairs N) ↔ (GoodQuestion N q × (q .limit ≡ mostRides))
@@ -36,7 +36,7 @@ pair-listed N q = (tells, holds)
   where
     tells : In q (pairs N) → GoodQuestion N q × (q .limit ≡ mostRides)
     tells h =
-        let (x, listed, from) = of-each (pairsFrom N) q (stationsOf N) h in
+        let (x, listed, from) = of-each (pairsFrom N) q (allStations N) h in
         let (y, other, differ, is) = from-listed N x q .0 from in
         let few : Within 1 mostRides mostRides = record { from = omega arith; to = omega arith } in
         subst (λ (p : Question). GoodQuestion N p × (p .limit ≡ mostRides)) is
@@ -44,7 +44,7 @@ pair-listed N q = (tells, holds)
 
     holds : GoodQuestion N q × (q .limit ≡ mostRides) → In q (pairs N)
     holds (g, e) =
-        in-each (pairsFrom N) (q .from) q (stationsOf N) (station-listed N (q .from) .1 (g .from))
+        in-each (pairsFrom N) (q .from) q (allStations N) (station-listed N (q .from) .1 (g .from))
         (from-listed N (q .from) q .1
         (q .to, station-listed N (q .to) .1 (g .to), g .different, ap (λ (n : ℕ). record { from = q .from; to = q .to; limit = n }) (sym e)))
 

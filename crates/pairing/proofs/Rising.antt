@@ -12,7 +12,7 @@ use Rattle.outline.specs.Tests.{choose, listOf, inOrder}
 use Rattle.outline.specs.Lexical.{LexLe}
 use Rattle.outline.specs.Network.{Network, sameStation}
 use Rattle.outline.specs.Listing.{those, ofEach}
-use Rattle.outline.specs.Lister.{stationOf, stationsOf, pairOf, pairsFrom, pairs}
+use Rattle.outline.specs.Lister.{station, allStations, pairOf, pairsFrom, pairs}
 use Rattle.cheapest.specs.Items.{In}
 use Rattle.cheapest.proofs.Lists.{of-one, in-second, in-either, of-those, of-each, of-lists, of-list}
 use Rattle.pairing.specs.Rising.{Before, RisingBy, stationRank, pairRank}
@@ -96,28 +96,28 @@ rising-each outer inner f (x ∷ s) (first, r) h b =
 
 -- ---- the stations and the pairs
 
-pub stations-rising : (N : Network) → RisingBy stationRank (stationsOf N)
-unfolding stationsOf
+pub stations-rising : (N : Network) → RisingBy stationRank (allStations N)
+unfolding allStations
 stations-rising N =
-    rising-in-order stationRank (λ c. listOf (stationOf c) (N .stations c)) (N .companies)
-    (λ c l. rising-list stationRank (stationOf c) (N .stations c) (λ j k m n. before-after (c ∷ []) (j ∷ []) (k ∷ []) (before-less j k [] [] m)))
+    rising-in-order stationRank (λ c. listOf (station c) (N .stations c)) (N .companies)
+    (λ c l. rising-list stationRank (station c) (N .stations c) (λ j k m n. before-after (c ∷ []) (j ∷ []) (k ∷ []) (before-less j k [] [] m)))
     (λ c d m l x y i h.
-    let (j, few, e) = of-list (stationOf c) x (N .stations c) i in
-    let (k, less, o) = of-list (stationOf d) y (N .stations d) h in
+    let (j, few, e) = of-list (station c) x (N .stations c) i in
+    let (k, less, o) = of-list (station d) y (N .stations d) h in
     rw (sym e, sym o) (before-less c d (j ∷ []) (k ∷ []) m))
 
 pub from-rising : (N : Network) (x : Station) → RisingBy pairRank (pairsFrom N x)
 unfolding pairsFrom RisingBy In
 from-rising N x =
-    rising-each stationRank pairRank (λ y. pairOf x y ∷ []) (those (λ y. not (sameStation x y)) (stationsOf N))
-    (rising-those stationRank (λ y. not (sameStation x y)) (stationsOf N) (stations-rising N))
+    rising-each stationRank pairRank (λ y. pairOf x y ∷ []) (those (λ y. not (sameStation x y)) (allStations N))
+    (rising-those stationRank (λ y. not (sameStation x y)) (allStations N) (stations-rising N))
     (λ y i. (λ q h. absurd h, tt))
     (λ y z b p q i h. rw (sym (of-one (pairOf x y) p i), sym (of-one (pairOf x z) q h)) (before-after (stationRank x) (stationRank y) (stationRank z) b))
 
 pub pairs-rising : (N : Network) → RisingBy pairRank (pairs N)
 unfolding pairs
 pairs-rising N =
-    rising-each stationRank pairRank (pairsFrom N) (stationsOf N) (stations-rising N) (λ x i. from-rising N x)
+    rising-each stationRank pairRank (pairsFrom N) (allStations N) (stations-rising N) (λ x i. from-rising N x)
     (λ x y b p q i h.
     let one = from-listed N x p .0 i in
     let other = from-listed N y q .0 h in

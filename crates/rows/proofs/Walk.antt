@@ -17,7 +17,7 @@ use Rattle.outline.specs.Book.{network}
 use Rattle.outline.specs.Valid.{ValidBook}
 use Rattle.outline.specs.Judging.{bookCheck}
 use Rattle.outline.specs.Questions.{Known}
-use Rattle.outline.specs.Lister.{stationOf, refusedLine, linesOf, listerOutput}
+use Rattle.outline.specs.Lister.{station, refusedLine, linesOf, listerOutput}
 use Rattle.laws.proofs.Tests.{true-not-false}
 use Rattle.laws.proofs.Judging.{book-good}
 use Rattle.laws.proofs.Reading.{stations-few, stations-some, companies-few, companies-some}
@@ -30,22 +30,22 @@ use Rattle.rows.specs.Rows.{firstRow, isRow, rowText, rowAfterFrom, rowA
 
 -- what comes after the lines from a station, by its three cases
 after-cases : (N : Network) (x : Station) (P : Row → Type 0)
-    → (x .number + 1 < N .stations (x .company) → P (From (stationOf (x .company) (x .number + 1))))
-    → (N .stations (x .company) ≤ x .number + 1 → x .company + 1 < N .companies → P (From (stationOf (x .company + 1) 0)))
+    → (x .number + 1 < N .stations (x .company) → P (From (station (x .company) (x .number + 1))))
+    → (N .stations (x .company) ≤ x .number + 1 → x .company + 1 < N .companies → P (From (station (x .company + 1) 0)))
     → (N .stations (x .company) ≤ x .number + 1 → N .companies ≤ x .company + 1 → P End)
     → P (rowAfterFrom N x)
 unfolding rowAfterFrom choose
 after-cases N x P same next end = go (ltb (x .number + 1) (N .stations (x .company))) refl (ltb (x .company + 1) (N .companies)) refl
   where
     go : (t : Bool) → ltb (x .number + 1) (N .stations (x .company)) ≡ t → (u : Bool) → ltb (x .company + 1) (N .companies) ≡ u
-        → P (choose t (From (stationOf (x .company) (x .number + 1))) (choose u (From (stationOf (x .company + 1) 0)) End))
+        → P (choose t (From (station (x .company) (x .number + 1))) (choose u (From (station (x .company + 1) 0)) End))
     go true e u f = same (ltb-true _ _ e)
     go false e true f = next (ltb-false _ _ e) (ltb-true _ _ f)
     go false e false f = end (ltb-false _ _ e) (ltb-false _ _ f)
 
 -- ---- each row is one that the book has
 
-first-known : (b : List ℕ) → ValidBook b → Known (network b) (stationOf 0 0)
+first-known : (b : List ℕ) → ValidBook b → Known (network b) (station 0 0)
 first-known b v =
     let some = companies-some b (v .laidOut) in
     let many = stations-some b (v .laidOut) 0 (omega arith) in
@@ -92,7 +92,7 @@ left-less b End d t = absurd (true-not-false (sym t))
 -- ---- together they are the whole list
 
 abbrev rowsOf : Network → ℕ → ℕ → List ℕ
-rowsOf N c i = linesFrom N (stationOf c i)
+rowsOf N c i = linesFrom N (station c i)
 
 abbrev companyRows : Network → ℕ → List ℕ
 companyRows N c = inOrder (rowsOf N c) (N .stations c)
@@ -106,7 +106,7 @@ unfolding inOrder
 order-nil f = refl
 
 -- what is put before the next station of the company, before the first of the next company, and where there is no next
-before-next : (N : Network) (x : Station) → putBefore N (stationOf (x .company) (x .number + 1)) ≡ putBefore N x ++ linesFrom N x
+before-next : (N : Network) (x : Station) → putBefore N (station (x .company) (x .number + 1)) ≡ putBefore N x ++ linesFrom N x
 before-next N x =
     ap (λ (l : List ℕ). inOrder (companyRows N) (x .company) ++ l) (order-more (rowsOf N (x .company)) (x .number))
     ∙ sym (append-assoc (inOrder (companyRows N) (x .company)) _ _)
@@ -117,7 +117,7 @@ before-end N x e =
     ∙ ap (λ (n : ℕ). inOrder (companyRows N) (x .company) ++ inOrder (rowsOf N (x .company)) n) e
     ∙ before-next N x
 
-before-first : (N : Network) (c : ℕ) → putBefore N (stationOf c 0) ≡ inOrder (companyRows N) c
+before-first : (N : Network) (c : ℕ) → putBefore N (station c 0) ≡ inOrder (companyRows N) c
 unfolding inOrder
 before-first N c = append-nil (inOrder (companyRows N) c)
 
@@ -136,8 +136,8 @@ rest b v zero x k l = absurd (omega (arith, k .company, k .number, l, companies-
 rest b v (suc n) x k l =
     sym (append-assoc (putBefore N x) (linesFrom N x) (rowsText N n (rowAfterFrom N x)))
     ∙ after-cases N x (λ r. (putBefore N x ++ linesFrom N x) ++ rowsText N n r ≡ inOrder (companyRows N) (N .companies))
-    (λ h. from (stationOf (x .company) (x .number + 1)) (before-next N x) (rest b v n _ (record { company = k .company; number = h }) (omega (arith, l))))
-    (λ h c. from (stationOf (x .company + 1) 0) (before-first N (x .company + 1) ∙ before-end N x (omega (arith, h, k .number)))
+    (λ h. from (station (x .company) (x .number + 1)) (before-next N x) (rest b v n _ (record { company = k .company; number = h }) (omega (arith, l))))
+    (λ h c. from (station (x .company + 1) 0) (before-first N (x .company + 1) ∙ before-end N x (omega (arith, h, k .number)))
     (rest b v n _ (record { company = c; number = omega (arith, stations-some b (v .laidOut) (x .company + 1) c) })
     (omega (arith, l, stations-few b (v .laidOut) (x .company) (k .company), k .number))))
     (λ h c. ap (λ (s : List ℕ). (putBefore N x ++ linesFrom N x) ++ s) (end-nothing N n)
@@ -158,7 +158,7 @@ unfolding rowsText rowText rowAfter
 only-refused N x zero h = absurd (omega arith)
 only-refused N x (suc n) h = ap (λ (s : List ℕ). refusedLine x ++ s) (end-nothing N n) ∙ append-nil (refusedLine x)
 
-left-first : (n : ℕ) → 641 ≤ n → left (From (stationOf 0 0)) ≤ n
+left-first : (n : ℕ) → 641 ≤ n → left (From (station 0 0)) ≤ n
 unfolding left
 left-first n h = h
 
@@ -170,7 +170,7 @@ rows-are-lines b n h = go (bookCheck b) refl
     go : (j : Judged) → bookCheck b ≡ j → rowsText (network b) n (firstRow j) ≡ linesOf j (network b)
     go Good e =
         let v = book-good b .0 e in
-        rest b v n (stationOf 0 0) (first-known b v) (left-first n h) ∙ sym (all-as-put (network b))
+        rest b v n (station 0 0) (first-known b v) (left-first n h) ∙ sym (all-as-put (network b))
     go (Refused x) e = only-refused (network b) x n (omega arith)
 
 -- "Input over 65,536 bytes is judged by its first 65,536."

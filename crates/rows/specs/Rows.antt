@@ -11,13 +11,13 @@ use Rattle.outline.specs.Network.{Network}
 use Rattle.outline.specs.Book.{network}
 use Rattle.outline.specs.Valid.{ValidBook}
 use Rattle.outline.specs.Questions.{Known}
-use Rattle.outline.specs.Lister.{stationOf, refusedLine}
+use Rattle.outline.specs.Lister.{station, refusedLine}
 use Rattle.listing.specs.Lines.{linesFrom}
 use Rattle.rows.specs.declared.Row.{Row}
 use Rattle.rows.specs.declared.Row.the-variants.{Refusal, From, End}
 
 unfoldable pub firstRow : Judged → Row
-firstRow Good = From (stationOf 0 0)
+firstRow Good = From (station 0 0)
 firstRow (Refused x) = Refusal x
 
 unfoldable pub isRow : Row → Bool
@@ -34,8 +34,8 @@ rowText N End = []
 unfoldable pub rowAfterFrom : Network → Station → Row
 rowAfterFrom N x =
     choose (ltb (x .number + 1) (N .stations (x .company)))
-    (From (stationOf (x .company) (x .number + 1)))
-    (choose (ltb (x .company + 1) (N .companies)) (From (stationOf (x .company + 1) 0)) End)
+    (From (station (x .company) (x .number + 1)))
+    (choose (ltb (x .company + 1) (N .companies)) (From (station (x .company + 1) 0)) End)
 
 unfoldable pub rowAfter : Network → Row → Row
 rowAfter N (Refusal x) = End

@@ -6,7 +6,7 @@ ghost use mathlib.Core.Path.{_≡_};
 ghost use Prim.Native.Nat.{ℕ, _<_};
 ghost use Rattle.outline.specs.Refusals.{firstBelow};
 ghost use Rattle.outline.specs.Sheet.{companiesIn, companyStart};
-ghost use Rattle.outline.specs.SheetValid.{Counts, CompanyNumbers};
+ghost use Rattle.outline.specs.SheetValid.{GoodCounts, CompanyNumbers};
 ghost use Rattle.outline.specs.SheetJudging.{countsCheck, numbersCheck, remainderCheck};
 
 const MOST_COMPANIES: u16 = 16;
@@ -63,7 +63,7 @@ fn judge_company(sheet: &[u16], c: u16, at: usize) -> Judged
 }
 
 pub fn judge_companies(sheet: &[u16]) -> Judged
-    requires { ⌜ Counts (now sheet) ⌝ }
+    requires { ⌜ GoodCounts (now sheet) ⌝ }
     ensures { λ r. ⌜ r ≡ firstBelow (numbersCheck (now (sheet .entry))) (companiesIn (now (sheet .entry))) ⌝ }
 {
     let n = sheet_layout::companies(sheet);
@@ -82,7 +82,7 @@ pub fn judge_companies(sheet: &[u16]) -> Judged
 
 // Whether the sheet ends where its rules do.
 pub fn judge_end(sheet: &[u16]) -> Judged
-    requires { ⌜ Counts (now sheet) ⌝ }
+    requires { ⌜ GoodCounts (now sheet) ⌝ }
     requires { ⌜ ((c : ℕ) → c < companiesIn (now sheet) → CompanyNumbers (now sheet) c) ⌝ }
     ensures { λ r. ⌜ r ≡ remainderCheck (now (sheet .entry)) ⌝ }
 {

@@ -11,7 +11,7 @@ use Rattle.outline.specs.Network.{Network}
 use Rattle.outline.specs.Tests.{inOrder}
 use Rattle.laws.proofs.Reading.{stations-few}
 use Rattle.filling.proofs.InOrder.{order-more}
-use Rattle.outline.specs.Lister.{stationOf}
+use Rattle.outline.specs.Lister.{station}
 use Rattle.listing.specs.Lines.{lineTo, linesTo}
 use Rattle.listing.specs.Putting.{Put}
 use Rattle.listing.proofs.Putting.{put-nothing, put-same, put-then}
@@ -20,7 +20,7 @@ use Rattle.listing.proofs.put_to.Statement.{statement}
 use Rattle.listing.proofs.put_to.Tie as tie
 
 abbrev nth : Network → Station → ℕ → ℕ → List ℕ
-nth N x company j = lineTo N x (stationOf company j)
+nth N x company j = lineTo N x (station company j)
 
 abbrev Inv-loop : tie.InvT-loop
 Inv-loop book x company out₀ at n end₀ j₀ out end j = (n ≡ network book .stations company) × (j ≤ n) × (length out ≡ length out₀)
