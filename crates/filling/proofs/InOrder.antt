@@ -12,10 +12,6 @@ use Rattle.outline.specs.Tests.{inOrder, part}
 use Rattle.outline.specs.Lending.{filled}
 use Rattle.filling.proofs.Filled.{filled-lent}
 
-pub order-none : (f : ℕ → List ℕ) → inOrder f 0 ≡ []
-unfolding inOrder
-order-none f = refl
-
 pub order-more : (f : ℕ → List ℕ) (k : ℕ) → inOrder f (k + 1) ≡ inOrder f k ++ f k
 unfolding inOrder
 order-more f k = rw add-one refl

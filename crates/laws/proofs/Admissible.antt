@@ -1,13 +1,12 @@
 -- A route is admissible exactly where it has one to four rides and each is good after those before it.
 use Prim.Native.Nat.{ℕ, zero, suc, _+_, _-_, _*_, _<_}
-use mathlib.Core.Path.{_≡_, refl, sym, ap, subst, _∙_}
-use mathlib.Core.List.{List, [], _∷_, _++_}
+use mathlib.Core.Path.{_≡_, refl, sym, ap, _∙_}
+use mathlib.Core.List.{List, [], _∷_}
 use mathlib.Core.Logic.{_⊎_, inl, inr, ⊎-elim, _↔_}
 use native.Mathlib.Nat.{not-suc-le-zero}
 use native.Mathlib.Omega.{arith}
-use lib.ListN.{length, getD, take, length-append, List·getD-append}
-use lib.Seq.{length-take-le, getD-take, take-append-le, take-append-seam, getD-append-seam}
-use borrow.Author.Count.{below-more}
+use lib.ListN.{length, getD, take}
+use lib.Seq.{length-take-le, getD-take}
 use Rattle.outline.specs.declared.Station.{Station}
 use Rattle.outline.specs.declared.Leg.{Leg}
 use Rattle.outline.specs.Numbers.{mostRides}
@@ -149,38 +148,6 @@ admissible-is N route = (tells, holds)
             rw (getD-take i route j noRide k) at (g .1 i h .fresh j (omega arith));
       });
     }
-
--- ---- one more ride
-
--- a route with one more ride: its rides are good where they were, and the new one is good after them
-pub rides-more : (N : Network) (route : List Leg) (l : Leg) → GoodRides N (route ++ (l ∷ [])) ↔ (GoodRides N route × GoodRide N route l)
-rides-more N route l = (tells, holds)
-  where
-    long : length (route ++ (l ∷ [])) ≡ length route + 1
-    long = length-append route (l ∷ [])
-
-    earlier : (i : ℕ) → i < length route → GoodAt N (route ++ (l ∷ [])) i ≡ GoodAt N route i
-    earlier i h =
-        ap (λ (p : List Leg). GoodRide N p (rideAt (route ++ (l ∷ [])) i)) (take-append-le i route (l ∷ []) (omega arith))
-        ∙ ap (GoodRide N (take i route)) (List·getD-append route (l ∷ []) noRide i h)
-
-    last : GoodAt N (route ++ (l ∷ [])) (length route) ≡ GoodRide N route l
-    last =
-        ap (λ (p : List Leg). GoodRide N p (rideAt (route ++ (l ∷ [])) (length route))) (take-append-seam route (l ∷ []))
-        ∙ ap (GoodRide N route) (getD-append-seam route l [] noRide)
-
-    tells : GoodRides N (route ++ (l ∷ [])) → GoodRides N route × GoodRide N route l
-    tells g =
-        let n = long in
-        (λ i h. subst (λ (T : Type 0). T) (earlier i h) (g i (omega arith)), subst (λ (T : Type 0). T) last (g (length route) (omega arith)))
-
-    holds : GoodRides N route × GoodRide N route l → GoodRides N (route ++ (l ∷ []))
-    holds g i h =
-        let n = long in
-        below-more (GoodAt N (route ++ (l ∷ []))) (length route)
-        (λ i h. subst (λ (T : Type 0). T) (sym (earlier i h)) (g .0 i h))
-        (subst (λ (T : Type 0). T) (sym last) (g .1))
-        i (omega arith)
 
 -- the same, by the tests of a given route's rides
 pub admissible-good : (N : Network) (route : List Leg) → Admissible N route ↔ (Within 1 (length route) mostRides × AllGood N route)

@@ -10,7 +10,7 @@ use lib.Seq.{set-split, take-at, drop-at, drop-drop, length-take-le}
 use lib.Dec.{ltb}
 use borrow.Author.Tests.{lt-ltb, le-ltb, ltb-true, ltb-false}
 use Rattle.outline.specs.Tests.{choose}
-use Rattle.outline.specs.Lister.{digit, digitsWithin, decimal, field}
+use Rattle.outline.specs.Lister.{digit, digitsWithin, decimal}
 use Rattle.listing.specs.Putting.{putAt, Put}
 
 -- ---- text put into a list
@@ -103,23 +103,16 @@ longer k m h some x l = go (ltb x 10) refl
         let few = h (x / 10) (omega arith) in
         omega arith
 
-pub decimal-short : (x : ℕ) → x < 65536 → length (decimal x) ≤ 5
-decimal-short x l = longer 4 10000 (longer 3 1000 (longer 2 100 (longer 1 10 (λ y h. let one = ap length (decimal-one y h) in omega arith) (omega arith)) (omega arith)) (omega arith)) (omega arith) x (omega arith)
-
 digits-most : (k x : ℕ) → x < 10 ^ suc k → length (decimal x) ≤ suc k
 digits-most zero x h = let one = ap length (decimal-one x h) in omega arith
 digits-most (suc k) x h = let l = longer (suc k) (10 ^ suc k) (digits-most k) (omega arith) x (omega (arith, h)) in omega arith
 
--- a number of 64 bits
+-- a number of 16 bits, and of 64
+pub decimal-short : (x : ℕ) → x < 65536 → length (decimal x) ≤ 5
+decimal-short x h = let g : x < 100000 = omega arith in digits-most 4 x g
+
 pub decimal-most : (x : ℕ) → x < 18446744073709551616 → length (decimal x) ≤ 20
 decimal-most x h = let g : x < 100000000000000000000 = omega arith in digits-most 19 x g
-
-pub field-length : (x after : ℕ) → length (field x after) ≡ length (decimal x) + 1
-unfolding field
-field-length x after = length-append (decimal x) (after ∷ [])
-
-pub field-short : (x after : ℕ) → x < 65536 → length (field x after) ≤ 6
-field-short x after h = omega (arith, field-length x after, decimal-short x h)
 
 -- ---- four bytes
 

@@ -101,10 +101,6 @@ companyRows N c = inOrder (rowsOf N c) (N .stations c)
 abbrev putBefore : Network → Station → List ℕ
 putBefore N x = inOrder (companyRows N) (x .company) ++ inOrder (rowsOf N (x .company)) (x .number)
 
-order-nil : (f : ℕ → List ℕ) → inOrder f 0 ≡ []
-unfolding inOrder
-order-nil f = refl
-
 -- what is put before the next station of the company, before the first of the next company, and where there is no next
 before-next : (N : Network) (x : Station) → putBefore N (station (x .company) (x .number + 1)) ≡ putBefore N x ++ linesFrom N x
 before-next N x =

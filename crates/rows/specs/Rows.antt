@@ -16,15 +16,18 @@ use Rattle.listing.specs.Lines.{linesFrom}
 use Rattle.rows.specs.declared.Row.{Row}
 use Rattle.rows.specs.declared.Row.the-variants.{Refusal, From, End}
 
+-- a good book's rows begin with its first station; "A refused book gives one line"
 unfoldable pub firstRow : Judged → Row
 firstRow Good = From (station 0 0)
 firstRow (Refused x) = Refusal x
 
+-- whether there is something to put
 unfoldable pub isRow : Row → Bool
 isRow (Refusal x) = true
 isRow (From x) = true
 isRow End = false
 
+-- what a row puts: the lines from its station, or the refusal's
 unfoldable pub rowText : Network → Row → List ℕ
 rowText N (Refusal x) = refusedLine x
 rowText N (From x) = linesFrom N x

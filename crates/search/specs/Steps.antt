@@ -54,6 +54,7 @@ pub record Ready (b : List ℕ) (path : Route) (left : ℕ) (best : Best) : Type
   pub room : path .count + left ≤ mostRides
   pub sound : Sound (network b) best
 
+-- link l has an end in the company
 unfoldable pub touches : Link → ℕ → Bool
 touches l company = either (eqb (l .one .company) company) (eqb (l .other .company) company)
 
