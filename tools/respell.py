@@ -4,9 +4,10 @@
 usage: python3 tools/respell.py        at the top of the repository, once, after /opt/rattle/port/port.py
 
 A word in camel case, as headerCheck, becomes header_check, in every .antt file, every .rt file and every must-fail edit. A dash in the
-name of a definition or a lemma of a file of specs/ or proofs/ becomes an underscore, but behind a function of std that is the outer call
-of the lemma's left side, as in length-words. A lemma that would get the name of a definition gets that name with _lem behind it.
-Names of src/, strings, inputs and outputs have no such words. Where two names of one file would fall together the script stops.
+name of a definition or a lemma of a file of specs/ or proofs/, also of one in a section or behind a where, becomes an underscore, but
+behind a function of std that is the outer call of the lemma's left side, as in length-words. A lemma that would get the name of a
+definition gets that name with _lem behind it. Names of src/, strings, inputs and outputs have no such words. Where two names of one file
+would fall together the script stops.
 """
 
 import os
@@ -47,7 +48,7 @@ def defined(texts):
                 m = None if line.startswith(SKIP) else DEFINED.match(line)
                 if m:
                     found.add(m.group(1))
-                m = re.match(r"  (?:pub )?(\S+) :", line)
+                m = re.match(r" +(?:pub )?([^\s({:]\S*) :", line)
                 if m:
                     found.add(m.group(1))
     return found

@@ -92,3 +92,7 @@ some_down n Q s =
 pub loop_turn : (N : Network) {b c d : Best} (Q : ℕ → List Leg → Type 0) (n : ℕ) → Improves N b c (λ R. Some n (λ i. Q i R)) → Improves N c d (Q n)
     → Improves N b d (λ R. Some (n + 1) (λ i. Q i R))
 loop_turn N Q n i j = improves_then N (λ R. Some (n + 1) (λ i. Q i R)) i j (λ R x. some_up n (λ i. Q i R) x) (λ R x. some_here n (λ i. Q i R) x) (λ R x. some_down n (λ i. Q i R) x)
+
+-- a dearer route is offered
+pub stays_cheaper : (N : Network) (b : Best) (r : Route) (f : ℕ) → Sound N b → b.found ≡ true → f ≡ fare_of N (rides_of r) → b.fare < f → Improves N b b (λ R. rides_of r ≡ R)
+stays_cheaper N b r f s h e l = held_stays N b r s h (by_fare N _ _ _ _ (s h).fare e l)

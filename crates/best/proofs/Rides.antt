@@ -16,7 +16,10 @@ use Rattle.laws.proofs.Tests.{compared}
 use Rattle.laws.proofs.Lexical.{lex_same}
 use Rattle.best.specs.declared.order.Comes.{Comes}
 use Rattle.best.specs.declared.order.Comes.TheVariants.{First, Alike, Last}
-use Rattle.best.specs.Kept.{comes_by, ride_comes}
+use Rattle.routes.specs.declared.Route.{Route}
+use Rattle.routes.specs.Held.{rides_of, Sized}
+use Rattle.routes.proofs.Rides.{rides_length}
+use Rattle.best.specs.Kept.{NoLonger, comes_by, ride_comes}
 
 -- ---- two numbers
 
@@ -119,3 +122,6 @@ lex_all l m n k same e = subst (λ (j : ℕ). LexLe (bytes_of (take n l)) (bytes
 
 pub take_more : (l m : List Leg) (i : ℕ) (d e : Leg) → i < length l → i < length m → take i l ≡ take i m → get_or l i d ≡ get_or m i e → take (i + 1) l ≡ take (i + 1) m
 take_more l m i d e h k s r = rw (add-one i, take-suc l i d h, take-suc m i e k, s, r)
+
+pub fewer_rides : (x y : Route) → Sized x → Sized y → x.count < y.count → NoLonger (rides_of x) (rides_of y)
+fewer_rides x y s t l = let a = rides_length x s in let b = rides_length y t in inl (omega arith)

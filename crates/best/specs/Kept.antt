@@ -1,5 +1,5 @@
 -- The best route so far, and what a part of the search does to it.
-use Rattle.std.specs.Prelude.{ℕ, ◌-◌, ◌<◌, ◌≡◌, true, ◌⊎◌, List, length, ltb}
+use Rattle.std.specs.Prelude.{ℕ, ◌<◌, ◌≡◌, true, ◌⊎◌, List, length, ltb}
 use Rattle.outline.specs.declared.Leg.{Leg}
 use Rattle.outline.specs.Tests.{choose}
 use Rattle.outline.specs.Lexical.{LexLe}

@@ -1,4 +1,6 @@
 // The best route so far.
+#![tactic(auto)]
+
 pub mod order;
 
 ghost use Rattle.std.specs.Prelude.{◌≡◌, false};
@@ -11,7 +13,7 @@ ghost use Rattle.best.specs.Kept.{Sound, Improves};
 use price::answers;
 use routes::Route;
 
-#[derive(Drop)]
+#[derive(Clone, Copy)]
 pub struct Best {
     pub found: bool,
     pub fare: u16,
@@ -30,6 +32,7 @@ impl Best {
     }
 
     // What is held, or a route that comes earlier.
+    #[tactic(auto, using(crate::proofs::Improving::stays_cheaper))]
     pub fn better(self, book: &[u8], route: Route) -> Best
         requires valid_book { ValidBook book.now × Sound (network book.now) self }
         requires held { Held (network book.now) route × AllGood (network book.now) (rides_of route) }

@@ -9,7 +9,7 @@ use outline::Leg;
 use routes::Route;
 
 // Where the first of two things comes.
-#[derive(Drop)]
+#[derive(Clone, Copy)]
 pub enum Comes {
     First,
     Alike,
@@ -58,6 +58,7 @@ fn no_greater(x: Route, y: Route) -> bool
 }
 
 // Whether a route has fewer rides than another, or as many and no greater bytes.
+#[tactic(auto, using(crate::proofs::Rides::fewer_rides))]
 pub fn no_longer(x: Route, y: Route) -> bool
     requires { Sized x × Sized y }
     ensures yes { result ≡ true → NoLonger (rides_of x) (rides_of y) }

@@ -1,4 +1,6 @@
 // The parts of a book, each written to the front of its own part of the lent buffer. With layout this is all that knows a book's places.
+#![tactic(auto)]
+
 ghost use Rattle.std.specs.Prelude.{◌≡◌, ◌∷◌, [], ◌++◌, ℕ, ◌+◌, ◌*◌, ◌/◌, ◌%◌, ◌≤◌, ◌<◌, length, get_or};
 ghost use Rattle.outline.specs.Tests.{in_order};
 ghost use Rattle.outline.specs.Book.{company_length, link_length, rule_length};

@@ -1,4 +1,6 @@
 // A fare book judged, and a company's body handed back.
+#![tactic(auto)]
+
 pub mod refusal;
 
 ghost use Rattle.std.specs.Prelude.{◌≡◌, ◌+◌};

@@ -13,9 +13,11 @@ use Rattle.cheapest.specs.Items.{In}
 pub of_one : {A : Type 0} (x y : A) → In y (x ∷ []) → x ≡ y
 unfolding In
 of_one x y (inl e) = e
+of_one x y (inr h) = absurd h
 
 pub in_first : {A : Type 0} (x : A) (s t : List A) → In x s → In x (s ++ t)
 unfolding In
+in_first x [] t h = absurd h
 in_first x (y ∷ s) t (inl e) = inl e
 in_first x (y ∷ s) t (inr h) = inr (in_first x s t h)
 
@@ -34,6 +36,7 @@ in_either x (y ∷ s) t (inr h) = ⊎_elim (λ a. inl (inr a)) (λ b. inr b) (in
 
 pub in_those : {A : Type 0} (f : A → Bool) (x : A) (s : List A) → In x s → f x ≡ true → In x (those f s)
 unfolding In those choose
+in_those f x [] h t = absurd h
 in_those f x (y ∷ s) (inl e) t = rw (ap f e ∙ t) (inl e)
 in_those f x (y ∷ s) (inr h) t = go (f y) (in_those f x s h t)
   where
@@ -55,6 +58,7 @@ of_those f x (y ∷ s) h = go (f y) refl h (of_those f x s)
 
 pub in_each : {A B : Type 0} (f : A → List B) (x : A) (y : B) (s : List A) → In x s → In y (f x) → In y (of_each f s)
 unfolding In of_each
+in_each f x y [] h k = absurd h
 in_each f x y (z ∷ s) (inl e) k = in_first y (f z) (of_each f s) (subst (λ (w : _). In y (f w)) (sym e) k)
 in_each f x y (z ∷ s) (inr h) k = in_second y (f z) (of_each f s) (in_each f x y s h k)
 

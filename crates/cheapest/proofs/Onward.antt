@@ -1,8 +1,8 @@
 -- Routes of which each ride is good after those before it: how they begin, and how they go on by one ride.
-use Prim.Native.Nat.{ℕ, suc, ◌+◌, ◌≤◌, ◌<◌}
+use Prim.Native.Nat.{ℕ, suc, ◌≤◌, ◌<◌}
 use mathlib.Core.Path.{◌≡◌, sym}
 use mathlib.Core.Bool.{true}
-use mathlib.Core.Logic.{◌⊎◌, ⊎_elim}
+use mathlib.Core.Logic.{⊎_elim}
 use mathlib.Core.List.{List, [], ◌∷◌, ◌++◌}
 use native.Mathlib.Nat.{eq-or-lt_of_le, not-suc-le-zero}
 use native.Mathlib.Omega.{arith}

@@ -1,5 +1,5 @@
 -- The listed routes are the admissible ones, and the answer computed from them is the answer to the question.
-use Prim.Native.Nat.{ℕ, zero, suc, ◌+◌, ◌≤◌, ◌<◌}
+use Prim.Native.Nat.{ℕ, zero, suc, ◌≤◌, ◌<◌}
 use mathlib.Core.Path.{◌≡◌, refl, sym, subst, ◌∙◌}
 use mathlib.Core.Bool.{Bool, true, false}
 use mathlib.Core.Logic.{◌⊎◌, inl, inr, ⊎_elim, ◌↔◌}
@@ -65,6 +65,7 @@ routes_listed N (suc n) route e good =
 
 pub routes_good : (N : Network) (n : ℕ) (route : List Leg) → In route (routes_of N n) → (length route ≡ n) × AllGood N route
 unfolding routes_of longer In
+routes_good N zero route (inr h) = absurd h
 routes_good N zero route (inl e) = subst (λ (r : List Leg). (length r ≡ zero) × AllGood N r) e (refl, good_none N)
 routes_good N (suc n) route h =
     let (p, listed, next) = of_each_lem (longer N) route (routes_of N n) h in

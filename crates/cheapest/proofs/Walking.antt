@@ -108,27 +108,27 @@ module _ (N : Network) (goal : Station) (p : List Leg) (x : Station) (route : Li
     unfolding next
     front = sym (one_more route (length p) f.more) ∙ ap (λ (s : List Leg). s ++ (next ∷ [])) f.begins
 
-    next-good : good_next N p next ≡ true
+    next_good : good_next N p next ≡ true
     unfolding next
-    next-good = subst (λ (s : List Leg). good_next N s next ≡ true) f.begins (f.good (length p) f.more)
+    next_good = subst (λ (s : List Leg). good_next N s next ≡ true) f.begins (f.good (length p) f.more)
 
-    same-company : next.company ≡ x.company
+    same_company : next.company ≡ x.company
     unfolding next
-    same-company = ap (λ (s : Station). s.company) f.boards
+    same_company = ap (λ (s : Station). s.company) f.boards
 
     -- the next ride is from x to where it alights
-    next-is-from : next ≡ ride_to x (alighted_at next)
+    next_is_from : next ≡ ride_to x (alighted_at next)
     unfolding next
-    next-is-from = λ i. record { company = (f.boards i).company; boarding = (f.boards i).number; alighting = next.alighting }
+    next_is_from = λ i. record { company = (f.boards i).company; boarding = (f.boards i).number; alighting = next.alighting }
 
-    ends-here : length route ≡ length p + 1 → Direct N goal p x route
-    ends-here e =
+    ends_here : length route ≡ length p + 1 → Direct N goal p x route
+    ends_here e =
         let whole : p ++ (next ∷ []) ≡ route = sym front ∙ take_all (suc (length p)) route (omega arith) in
         let there : alighted_at next ≡ goal = sym (end_of_lem p next) ∙ ap end_of whole ∙ f.ends in
-        let ride : next ≡ ride_to x goal = next-is-from ∙ ap (ride_to x) there in
+        let ride : next ≡ ride_to x goal = next_is_from ∙ ap (ride_to x) there in
         record {
-          company = sym same-company ∙ ap (λ (s : Station). s.company) there;
-          good = subst (λ (l : Leg). good_next N p l ≡ true) ride next-good;
+          company = sym same_company ∙ ap (λ (s : Station). s.company) there;
+          good = subst (λ (l : Leg). good_next N p l ≡ true) ride next_good;
           is = subst (λ (l : Leg). p ++ (l ∷ []) ≡ route) ride whole;
         }
 
@@ -141,9 +141,9 @@ module _ (N : Network) (goal : Station) (p : List Leg) (x : Station) (route : Li
         let change : Change N (alighted_at next) (boarded_at after) = subst (λ (y : Station). Change N y (boarded_at after)) (end_of_lem p next) (((next_is N (p ++ (next ∷ [])) after).0 good).follows (omega arith)) in
         let k = change.link in
         let ends = ends_are (N.link k) (alighted_at next) (boarded_at after) (links k change.known).0.ordered change.joined in
-        let near : near_end (N.link k) x.company ≡ alighted_at next = subst (λ (c : ℕ). near_end (N.link k) c ≡ alighted_at next) same-company ends.0 in
-        let far : far_end (N.link k) x.company ≡ boarded_at after = subst (λ (c : ℕ). far_end (N.link k) c ≡ boarded_at after) same-company ends.1 in
-        let ride : ride_to x (near_end (N.link k) x.company) ≡ next = ap (ride_to x) near ∙ sym next-is-from in
+        let near : near_end (N.link k) x.company ≡ alighted_at next = subst (λ (c : ℕ). near_end (N.link k) c ≡ alighted_at next) same_company ends.0 in
+        let far : far_end (N.link k) x.company ≡ boarded_at after = subst (λ (c : ℕ). far_end (N.link k) c ≡ boarded_at after) same_company ends.1 in
+        let ride : ride_to x (near_end (N.link k) x.company) ≡ next = ap (ride_to x) near ∙ sym next_is_from in
         let onward : From N goal (left - 1) (p ++ (next ∷ [])) (boarded_at after) route = record {
           good = f.good;
           begins = ap (λ (n : ℕ). take n route) long ∙ front;
@@ -156,15 +156,15 @@ module _ (N : Network) (goal : Station) (p : List Leg) (x : Station) (route : Li
           at = k;
           below = change.known;
           holds = record {
-            company = sym same-company ∙ ap (λ (s : Station). s.company) (sym near);
-            good = subst (λ (l : Leg). good_next N p l ≡ true) (sym ride) next-good;
+            company = sym same_company ∙ ap (λ (s : Station). s.company) (sym near);
+            good = subst (λ (l : Leg). good_next N p l ≡ true) (sym ride) next_good;
             onward = subst (λ (l : Leg). From N goal (left - 1) (p ++ (l ∷ [])) (far_end (N.link k) x.company) route) (sym ride)
                 (subst (λ (y : Station). From N goal (left - 1) (p ++ (next ∷ [])) y route) (sym far) onward);
           };
         }
 
   pub from_splits : (left : ℕ) → GoodLinks N → From N goal left p x route → Direct N goal p x route ⊎ Some N.links (λ k. Over N goal (left - 1) p x k route)
-  from_splits left links f = ⊎_elim (λ e. inl (ends-here left f (sym e))) (λ l. inr (goes_on left f links l)) (eq-or-lt_of_le (let m = f.more in omega arith))
+  from_splits left links f = ⊎_elim (λ e. inl (ends_here left f (sym e))) (λ l. inr (goes_on left f links l)) (eq-or-lt_of_le (let m = f.more in omega arith))
 
 -- ---- the routes that a question asks for
 

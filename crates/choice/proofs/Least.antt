@@ -137,13 +137,13 @@ module _ (earn : Earn) (rules n : ℕ) where
     front : (k y : ℕ) → Most (earn at m) rules k y → (t : List Run) → Apart earn rules n at t → Starts at m t → Counts earn (run_by k) t
     unfolding Apart Starts run_by total numbers LexLe
     front k y best [] a l = absurd l
-    front k y best (p ∷ t) a l = ⊎_elim more same (best.most p.rule e.yen a.0.known (as-mine e.is))
+    front k y best (p ∷ t) a l = ⊎_elim more same (best.most p.rule e.yen a.0.known (as_mine e.is))
       where
         e : Earned (earn p.first p.rides p.rule)
         e = earned _ a.0.pays
 
-        as-mine : earn p.first p.rides p.rule ≡ Yen e.yen → earn at m p.rule ≡ Yen e.yen
-        as-mine h = ap (λ (i : ℕ). earn i m p.rule) l.0 ∙ ap (λ (i : ℕ). earn p.first i p.rule) l.1 ∙ h
+        as_mine : earn p.first p.rides p.rule ≡ Yen e.yen → earn at m p.rule ≡ Yen e.yen
+        as_mine h = ap (λ (i : ℕ). earn i m p.rule) l.0 ∙ ap (λ (i : ℕ). earn p.first i p.rule) l.1 ∙ h
 
         mine : yen (earn at m k) ≡ y
         mine = yen_is _ y best.earned
@@ -177,19 +177,19 @@ module _ (earn : Earn) (rules n : ℕ) where
     ahead k (p ∷ s) (inl h) e = inl h
     ahead k (p ∷ s) (inr h) e = inr (h.0, inl (omega (arith, h.1)))
 
-    front-apart : (k y : ℕ) → Most (earn at m) rules k y → Apart earn rules n at (run_by k)
+    front_apart : (k y : ℕ) → Most (earn at m) rules k y → Apart earn rules n at (run_by k)
     unfolding Apart run_by
-    front-apart k y best = (record { after = omega arith; long = record { from = two; to = four }; inside = room; known = best.known; pays = pays_is _ y best.earned }, tail.apart)
+    front_apart k y best = (record { after = omega arith; long = record { from = two; to = four }; inside = room; known = best.known; pays = pays_is _ y best.earned }, tail.apart)
 
-    front-after : (k : ℕ) → After at m (run_by k)
+    front_after : (k : ℕ) → After at m (run_by k)
     unfolding After run_by
-    front-after k = inr (refl, omega arith)
+    front_after k = inr (refl, omega arith)
 
     taken : (k y : ℕ) → Most (earn at m) rules k y → (r : List Run) → Taken earn (run_by k) held r → Least at m r
     taken k y best r h = ⊎_elim
         (λ a. subst (Least at m) (sym a.0) (record {
-          apart = front-apart k y best;
-          after = front-after k;
+          apart = front_apart k y best;
+          after = front_after k;
           first = λ t b c. ⊎_elim (λ l. counts_then earn (run_by k) held t a.1 (so_far.first t b l)) (λ l. front k y best t b l) (after_split at m t c);
         }))
         (λ a. subst (Least at m) (sym a.0) (record {
@@ -206,34 +206,34 @@ module _ (earn : Earn) (rules n : ℕ) where
         let e = earned _ a.0.pays in
         h p.rule e.yen a.0.known (ap (λ (i : ℕ). earn i m p.rule) l.0 ∙ ap (λ (i : ℕ). earn p.first i p.rule) l.1 ∙ e.is)
 
-    with-run : (b : Payer) → Right (earn at m) rules b → Least at m (with_run earn at m rest held b)
+    with_run_lem : (b : Payer) → Right (earn at m) rules b → Least at m (with_run earn at m rest held b)
     unfolding with_run run_by
-    with-run Nobody h = record {
+    with_run_lem Nobody h = record {
       apart = so_far.apart;
       after = after_less at m held so_far.after;
       first = λ t a k. ⊎_elim (λ l. so_far.first t a l) (λ l. absurd (no_front h t a l)) (after_split at m t k);
     }
-    with-run (Pays k y) h = taken k y h _ (rather_takes earn (run_by k) held (ahead k held so_far.after))
+    with_run_lem (Pays k y) h = taken k y h _ (rather_takes earn (run_by k) held (ahead k held so_far.after))
 
-    least-or : Least at m (or_run earn rules at m rest held)
+    least_or : Least at m (or_run earn rules at m rest held)
     unfolding or_run
-    least-or = with-run (best_rule (earn at m) rules) (rule_right (earn at m) rules)
+    least_or = with_run_lem (best_rule (earn at m) rules) (rule_right (earn at m) rules)
 
   least : (l at : ℕ) → at + l ≡ n → Least at 2 (best_from earn rules l at)
   unfolding best_from
   least zero at e = least_none at (omega arith)
   least (suc zero) at e = least_none at (omega arith)
   least (suc (suc zero)) at e =
-      least-or at 2 [] [] (omega arith) (omega arith) (omega arith) (least_none (at + 2) (omega arith))
+      least_or at 2 [] [] (omega arith) (omega arith) (omega arith) (least_none (at + 2) (omega arith))
       (least_short at 3 [] (omega arith) (least_short at 4 [] (omega arith) (least_alone at [] (least_none (at + 1) (omega arith)))))
   least (suc (suc (suc zero))) at e =
-      least-or at 2 [] _ (omega arith) (omega arith) (omega arith) (least_none (at + 2) (omega arith))
-      (least-or at 3 [] _ (omega arith) (omega arith) (omega arith) (least_none (at + 3) (omega arith))
+      least_or at 2 [] _ (omega arith) (omega arith) (omega arith) (least_none (at + 2) (omega arith))
+      (least_or at 3 [] _ (omega arith) (omega arith) (omega arith) (least_none (at + 3) (omega arith))
       (least_short at 4 _ (omega arith) (least_alone at _ (least (suc (suc zero)) (at + 1) (omega arith)))))
   least (suc (suc (suc (suc l)))) at e =
-      least-or at 2 _ _ (omega arith) (omega arith) (omega arith) (least (suc (suc l)) (at + 2) (omega arith))
-      (least-or at 3 _ _ (omega arith) (omega arith) (omega arith) (least (suc l) (at + 3) (omega arith))
-      (least-or at 4 _ _ (omega arith) (omega arith) (omega arith) (least l (at + 4) (omega arith))
+      least_or at 2 _ _ (omega arith) (omega arith) (omega arith) (least (suc (suc l)) (at + 2) (omega arith))
+      (least_or at 3 _ _ (omega arith) (omega arith) (omega arith) (least (suc l) (at + 3) (omega arith))
+      (least_or at 4 _ _ (omega arith) (omega arith) (omega arith) (least l (at + 4) (omega arith))
       (least_alone at _ (least (suc (suc (suc l))) (at + 1) (omega arith)))))
 
   -- the computed selection counts

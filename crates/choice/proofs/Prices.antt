@@ -1,8 +1,8 @@
 -- What the contract of `price` says in document 01's words, that it allows one answer, and that a fare is at least 1.
-use Prim.Native.Nat.{ℕ, ◌*◌, ◌-◌}
+use Prim.Native.Nat.{ℕ, ◌*◌}
 use mathlib.Core.Path.{◌≡◌, refl, sym, ap, ◌∙◌}
 use mathlib.Core.List.{List}
-use mathlib.Core.Logic.{◌⊎◌, ⊎_elim, ◌↔◌}
+use mathlib.Core.Logic.{⊎_elim, ◌↔◌}
 use native.Mathlib.Omega.{arith}
 use Rattle.outline.specs.declared.Leg.{Leg}
 use Rattle.outline.specs.declared.Answer.{Answer}

@@ -10,7 +10,7 @@ use Rattle.outline.specs.declared.Run.{Run}
 use Rattle.outline.specs.declared.Saving.TheVariants.{Yen}
 use Rattle.outline.specs.Network.{Network}
 use Rattle.outline.specs.Matching.{run_of, sum_of}
-use Rattle.outline.specs.Selections.{Earn, yen, Apart, total}
+use Rattle.outline.specs.Selections.{Earn, Apart, total}
 use Rattle.choice.proofs.Rules.{earned, yen_is}
 
 pub sum_append : (N : Network) (s t : List Leg) → sum_of N (s ++ t) ≡ sum_of N s + sum_of N t

@@ -1,4 +1,6 @@
 // The header and the contents: whether each body lies where it should and is as long as it should be.
+#![tactic(auto)]
+
 ghost use Rattle.std.specs.Prelude.{◌≡◌, ◌≤◌, ◌<◌};
 ghost use Rattle.outline.specs.Refusals.{first_below};
 ghost use Rattle.outline.specs.Book.{company_count, rules_entry};

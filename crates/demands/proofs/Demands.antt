@@ -65,7 +65,7 @@ refused_itself κs a r e x p v h = refused_question a.0.now a.1.0 r x p v h
 -- ---- 2. A given route's fare and its choice of discounts are the outline's.
 
 pub route_priced : (κs : _) (a : _) (r : Answer) (e : _) → price.Post κs a r e → prices.Answered a.0.now a.1.0.now r
-route_priced κs a r e p = (prices.price-is a.0.now a.1.0.now r).0 p
+route_priced κs a r e p = (prices.price_is a.0.now a.1.0.now r).0 p
 
 -- Every valid sheet is written as a book that reads back as the same sheet; every valid book, read and written again, is the same book.
 -- roundtrip/proofs/Trips says the same of the lent memory, where there is room.

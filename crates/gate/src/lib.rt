@@ -1,4 +1,6 @@
 // The C face of the public operations: include/fares.h says what each returns. A slice is a pointer and a length there.
+#![tactic(auto)]
+
 ghost use Rattle.std.specs.Prelude.{◌≡◌, length};
 ghost use Rattle.outline.specs.Judging.{book_check, company_body, company_offset};
 ghost use Rattle.outline.specs.Price.{price_of};
@@ -11,8 +13,7 @@ use outline::{Judged, Question, Station};
 use telling::{answers, words};
 
 // Whether a book is good.
-#[unsafe(no_mangle)]
-pub extern "C" fn fares_check(book: &[u8]) -> u64
+pub fn fares_check(book: &[u8]) -> u64
     ensures { result ≡ judged_word (book_check book.now) }
 {
     let found = book::judge(book);
@@ -23,8 +24,7 @@ pub extern "C" fn fares_check(book: &[u8]) -> u64
 }
 
 // Where a company's body stands in the book.
-#[unsafe(no_mangle)]
-pub extern "C" fn fares_company(book: &[u8], company: u8) -> u64
+pub fn fares_company(book: &[u8], company: u8) -> u64
     ensures { result ≡ part_word (company_offset book.now company) (length (company_body book.now company)) }
 {
     let found = book::judge(book);
@@ -41,8 +41,7 @@ pub extern "C" fn fares_company(book: &[u8], company: u8) -> u64
 }
 
 // A book read into a lent sheet.
-#[unsafe(no_mangle)]
-pub extern "C" fn fares_read(book: &[u8], sheet: &mut [u16]) -> u64
+pub fn fares_read(book: &[u8], sheet: &mut [u16]) -> u64
     ensures value { result ≡ written_word (read_answer book.now sheet.old) }
     ensures sheet_after { sheet.new ≡ read_leaves book.now sheet.old }
 {
@@ -50,8 +49,7 @@ pub extern "C" fn fares_read(book: &[u8], sheet: &mut [u16]) -> u64
 }
 
 // A sheet's book written into a lent buffer.
-#[unsafe(no_mangle)]
-pub extern "C" fn fares_write(sheet: &[u16], book: &mut [u8]) -> u64
+pub fn fares_write(sheet: &[u16], book: &mut [u8]) -> u64
     ensures value { result ≡ written_word (write_answer sheet.now book.old) }
     ensures book_after { book.new ≡ write_leaves sheet.now book.old }
 {
@@ -59,16 +57,14 @@ pub extern "C" fn fares_write(sheet: &[u16], book: &mut [u8]) -> u64
 }
 
 // The price of a given route.
-#[unsafe(no_mangle)]
-pub extern "C" fn fares_price(book: &[u8], route: &[u8], answer: &mut [u16]) -> u64
+pub fn fares_price(book: &[u8], route: &[u8], answer: &mut [u16]) -> u64
     ensures { Tells (price_of book.now route.now) answer.old result answer.new }
 {
     words::written(answers::put(price::price(book, route), answer))
 }
 
 // The cheapest route between two stations.
-#[unsafe(no_mangle)]
-pub extern "C" fn fares_cheapest(
+pub fn fares_cheapest(
     book: &[u8],
     from_company: u8,
     from_station: u8,

@@ -1,4 +1,6 @@
 // The layout of a book: where its counts, bodies, entries, links and rules stand. No other file knows an offset or a size.
+#![tactic(auto)]
+
 pub mod bytes;
 
 ghost use Rattle.std.specs.Prelude.{◌≡◌, ◌∷◌, ◌++◌, ◌+◌, ◌*◌, ◌≤◌, ◌<◌, length, get_or};

@@ -1,4 +1,6 @@
 // The links: the first that is bad or repeated.
+#![tactic(auto)]
+
 ghost use Rattle.std.specs.Prelude.{◌≡◌, ◌<◌};
 ghost use Rattle.outline.specs.Book.{network};
 ghost use Rattle.outline.specs.Refusals.{first_below};

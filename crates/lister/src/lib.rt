@@ -1,23 +1,34 @@
 // The pair lister's output for a book, written row by row.
-ghost use Rattle.std.specs.Prelude.{◌≤◌, length};
+#![tactic(auto)]
 
-use libc::STDOUT_FILENO;
+ghost use Rattle.std.specs.Prelude.{◌≤◌, OnOk, length, take};
+ghost use Rattle.std.specs.Io.KnownBytes.{Appends};
+ghost use Rattle.outline.specs.Book.{network};
+ghost use Rattle.outline.specs.Judging.{book_check};
+ghost use Rattle.outline.specs.Lister.{lines_of};
 
-// Writes the first n bytes of the buffer.
-fn write(out: &[u8], n: usize)
+use std::io;
+use std::io::Write;
+
+// Writes the first n bytes of the buffer. An error is the writer's, and says nothing of what it took before.
+fn write<W: Write>(to: &mut W, out: &[u8], n: usize) -> io::Result<()>
     requires { n ≤ length out.now }
+    ensures { OnOk result (Appends (W.contents to.old) (W.contents to.new) (take n out.now)) }
 {
-    io::write_all(STDOUT_FILENO, &out[0..n]);
+    to.write_all(&out[0..n])
 }
 
-// Writes the rows of a book, one after the other. The buffer has room for the longest.
-pub fn list(book: &[u8]) {
-    let mut space = io::large_buffer();
+// Writes the rows of a book, one after the other. The buffer has room for the longest. An error is the writer's, as above.
+pub fn list<W: Write>(to: &mut W, book: &[u8]) -> io::Result<()>
+    ensures { OnOk result (Appends (W.contents to.old) (W.contents to.new) (lines_of (book_check book.now) (network book.now))) }
+{
+    let mut space = [0u8; 65536];
     let out: &mut [u8] = &mut space;
     let mut row = rows::first(book);
     while rows::more(row) {
         let end = rows::put(book, row, out);
-        write(out, end);
+        write(to, out, end)?;
         row = rows::after(book, row);
     }
+    Ok(())
 }

@@ -1,4 +1,6 @@
 // What a book says: its companies' stations and entries, its links and its rules.
+#![tactic(auto)]
+
 ghost use Rattle.std.specs.Prelude.{◌≡◌, ◌*◌, ◌<◌, length};
 ghost use Rattle.outline.specs.Fares.{in_map};
 ghost use Rattle.outline.specs.Network.{entry_of, same_station, leads, joins, link_between};
@@ -22,6 +24,7 @@ pub fn stations(book: &[u8], company: u8) -> u8
     book[layout::offset(book, wide(company))]
 }
 
+#[tactic(auto, unfolding(outline::specs::Network::entry_of))]
 fn entry_of(x: u16) -> Entry
     ensures { result ≡ entry_of x }
 {

@@ -36,13 +36,13 @@ module _ (r : Route) (sized : Sized r) (first rides : ℕ) (ends : first + rides
       ∙ sym (get_or-take rides (drop first (rides_of r)) i no_ride h ∙ get_or-drop first (rides_of r) i no_ride)
 
   module _ (some : 1 ≤ rides) where
-    pub run-first : (d : Leg) → get_or r.legs first d ≡ ride_at (run_in r first rides) 0
-    run-first d =
+    pub run_first : (d : Leg) → get_or r.legs first d ≡ ride_at (run_in r first rides) 0
+    run_first d =
         let e : first ≡ first + 0 = omega arith in
         ap (λ (n : ℕ). get_or r.legs n d) e ∙ run_at 0 d (omega arith)
 
-    pub run-last : (d : Leg) → get_or r.legs (first + rides - 1) d ≡ ride_at (run_in r first rides) (length (run_in r first rides) - 1)
-    run-last d =
+    pub run_last : (d : Leg) → get_or r.legs (first + rides - 1) d ≡ ride_at (run_in r first rides) (length (run_in r first rides) - 1)
+    run_last d =
         let long = run_length in
         let e : first + rides - 1 ≡ first + (rides - 1) = omega arith in
         let g : rides - 1 ≡ length (run_in r first rides) - 1 = omega arith in
@@ -65,50 +65,50 @@ module _ (N : Network) (r : Route) (held : Held N r) where
       omega arith
 
   module _ (first rides : ℕ) (ends : first + rides ≤ r.count) where
-    pub run-exists : (i : ℕ) → i < rides → Exists N (ride_at (run_in r first rides) i)
-    run-exists i h = rw (← run_at r held.sized first rides ends i no_ride h) (held.exist (first + i) (omega arith))
+    pub run_exists : (i : ℕ) → i < rides → Exists N (ride_at (run_in r first rides) i)
+    run_exists i h = rw (← run_at r held.sized first rides ends i no_ride h) (held.exist (first + i) (omega arith))
 
-    pub run-link : (i : ℕ) → i + 1 < rides → link_after N (run_in r first rides) i ≡ ByLink (get_or r.links (first + i + 1) 0)
+    pub run_link : (i : ℕ) → i + 1 < rides → link_after N (run_in r first rides) i ≡ ByLink (get_or r.links (first + i + 1) 0)
     unfolding link_after
-    run-link i h =
+    run_link i h =
         let there = run_at r held.sized first rides ends i no_ride (omega arith) in
         let next = run_at r held.sized first rides ends (i + 1) no_ride h in
         let e : first + (i + 1) ≡ first + i + 1 = omega arith in
         rw (← there, ← next, e) (held.links (first + i) (omega arith))
 
-    pub run-link-known : (i : ℕ) → i + 1 < rides → get_or r.links (first + i + 1) 0 < N.links
+    pub run_link_known : (i : ℕ) → i + 1 < rides → get_or r.links (first + i + 1) 0 < N.links
     unfolding link_after
-    run-link-known i h = (found_link N _ _ _ (run-link i h)).0
+    run_link_known i h = (found_link N _ _ _ (run_link i h)).0
 
     -- whether a rule permits the change after ride i of the run
-    pub run-permits : (rule : Rule) (i : ℕ) → i + 1 < rides → permits rule (link_after N (run_in r first rides) i) ≡ in_map rule.permitted (get_or r.links (first + i + 1) 0)
+    pub run_permits : (rule : Rule) (i : ℕ) → i + 1 < rides → permits rule (link_after N (run_in r first rides) i) ≡ in_map rule.permitted (get_or r.links (first + i + 1) 0)
     unfolding permits
-    run-permits rule i h = ap (permits rule) (run-link i h)
+    run_permits rule i h = ap (permits rule) (run_link i h)
 
 -- the ends of a run and a rule's maps
 module _ (b : List ℕ) (r : Route) (first rides k : ℕ) (p : RunAndRule b r first rides k) where
   -- a station of a ride of the run has room in a map of five bytes
   known_station : (i : ℕ) → i < rides → ((ride_at (run_in r first rides) i).boarding < 40) × ((ride_at (run_in r first rides) i).alighting < 40)
   known_station i h =
-      let there = run-exists (network b) r p.held first rides p.inside.ends i h in
+      let there = run_exists (network b) r p.held first rides p.inside.ends i h in
       let few = stations_few b p.laid_out (ride_at (run_in r first rides) i).company there.company in
       (omega (arith, there.boarding), omega (arith, there.alighting))
 
   module _ (d : Leg) (map : List ℕ) where
-    pub first-in : map ≡ ((network b).rule k).boarding → (get_or r.legs first d).boarding < 8 * length map
-    first-in e =
+    pub first_in : map ≡ ((network b).rule k).boarding → (get_or r.legs first d).boarding < 8 * length map
+    first_in e =
         let size = (rule_sized b p.laid_out k p.known).boarding in
-        rw (run-first r p.held.sized first rides p.inside.ends p.inside.some d, e) (omega (arith, (known_station 0 p.inside.some).0))
+        rw (run_first r p.held.sized first rides p.inside.ends p.inside.some d, e) (omega (arith, (known_station 0 p.inside.some).0))
 
-    pub last-in : map ≡ ((network b).rule k).alighting → (get_or r.legs (first + rides - 1) d).alighting < 8 * length map
-    last-in e =
+    pub last_in : map ≡ ((network b).rule k).alighting → (get_or r.legs (first + rides - 1) d).alighting < 8 * length map
+    last_in e =
         let size = (rule_sized b p.laid_out k p.known).alighting in
         let long = run_length r p.held.sized first rides p.inside.ends in
         let inside : length (run_in r first rides) - 1 < rides = omega (arith, p.inside.some) in
-        rw (run-last r p.held.sized first rides p.inside.ends p.inside.some d, e) (omega (arith, (known_station (length (run_in r first rides) - 1) inside).1))
+        rw (run_last r p.held.sized first rides p.inside.ends p.inside.some d, e) (omega (arith, (known_station (length (run_in r first rides) - 1) inside).1))
 
-    pub boards-is : map ≡ ((network b).rule k).boarding → (t : Bool) → t ≡ in_map map (get_or r.legs first d).boarding → boards ((network b).rule k) (run_in r first rides) ≡ t
-    boards-is e t h = rw (← run-first r p.held.sized first rides p.inside.ends p.inside.some d, ← e) (sym h)
+    pub boards_is : map ≡ ((network b).rule k).boarding → (t : Bool) → t ≡ in_map map (get_or r.legs first d).boarding → boards ((network b).rule k) (run_in r first rides) ≡ t
+    boards_is e t h = rw (← run_first r p.held.sized first rides p.inside.ends p.inside.some d, ← e) (sym h)
 
-    pub alights-is : map ≡ ((network b).rule k).alighting → (t : Bool) → t ≡ in_map map (get_or r.legs (first + rides - 1) d).alighting → alights ((network b).rule k) (run_in r first rides) ≡ t
-    alights-is e t h = rw (← run-last r p.held.sized first rides p.inside.ends p.inside.some d, ← e) (sym h)
+    pub alights_is : map ≡ ((network b).rule k).alighting → (t : Bool) → t ≡ in_map map (get_or r.legs (first + rides - 1) d).alighting → alights ((network b).rule k) (run_in r first rides) ≡ t
+    alights_is e t h = rw (← run_last r p.held.sized first rides p.inside.ends p.inside.some d, ← e) (sym h)

@@ -1,4 +1,6 @@
 // Whether a rule matches a run of a route, and what it earns.
+#![tactic(auto)]
+
 ghost use Rattle.std.specs.Prelude.{◌≡◌, ◌+◌, ◌*◌, ◌≤◌, ◌<◌};
 ghost use Rattle.outline.specs.Network.{Network};
 ghost use Rattle.outline.specs.Book.{network};

@@ -1,4 +1,6 @@
 // The parts of a sheet, each written to the front of a part of the lent list. With sheet_layout this is all that knows a sheet's places.
+#![tactic(auto)]
+
 ghost use Rattle.std.specs.Prelude.{◌≡◌, ◌∷◌, [], ◌+◌, ◌*◌, ◌≤◌, ◌<◌, length};
 ghost use Rattle.outline.specs.Book.{table_of, station_count, rule_length, rule_of};
 ghost use Rattle.outline.specs.Sheet.{table_numbers, table_sheet, link_sheet, rule_numbers, rule_sheet};

@@ -1,4 +1,6 @@
 // A given route judged and priced.
+#![tactic(auto)]
+
 pub mod answers;
 
 ghost use Rattle.std.specs.Prelude.{◌≡◌};

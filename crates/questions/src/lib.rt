@@ -1,4 +1,6 @@
 // A question judged: whether its stations are in the book and differ, and its limit is right.
+#![tactic(auto)]
+
 ghost use Rattle.std.specs.Prelude.{◌≡◌};
 ghost use Rattle.outline.specs.Book.{network};
 ghost use Rattle.outline.specs.Valid.{LaidOut};

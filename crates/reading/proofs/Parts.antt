@@ -39,6 +39,9 @@ parts b tables changes room laid t l h =
       fits = h;
     }
 
+pub tables_few : (b : List ℕ) → LaidOut b → length (tables_sheet (fares_of b)) ≤ 25616
+tables_few b laid = tables_sheet_most (fares_of b) (book_whole b laid)
+
 -- ---- a turn of a loop over the companies, the links or the rules
 
 abbrev pub table_list : List ℕ → ℕ → List ℕ

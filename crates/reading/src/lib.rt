@@ -1,4 +1,6 @@
 // A sheet filled from a book, part after part.
+#![tactic(auto)]
+
 ghost use Rattle.std.specs.Prelude.{◌≡◌, ◌≤◌, length};
 ghost use Rattle.outline.specs.Book.{fares_of};
 ghost use Rattle.outline.specs.Valid.{LaidOut};
@@ -78,6 +80,7 @@ fn fill_rules(book: &[u8], sheet: &mut [u16])
 }
 
 // The whole sheet, to the front of the lent list.
+#[tactic(auto, using(crate::proofs::Parts::tables_few))]
 pub fn fill(book: &[u8], sheet: &mut [u16])
     requires { LaidOut book.now × (length (sheet_of (fares_of book.now)) ≤ length sheet.old) }
     ensures { sheet.new ≡ filled (sheet_of (fares_of book.now)) sheet.old }

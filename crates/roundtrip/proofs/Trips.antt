@@ -28,22 +28,22 @@ use Rattle.laws.proofs.Sheet.{sheet_good}
 use Rattle.filling.proofs.Filled.{filled_front, length-filled}
 use Rattle.filling.proofs.Answers.{Answers, answers_wrote}
 use Rattle.filling.proofs.Whole.{book_whole, sheet_whole}
-use Rattle.roundtrip.proofs.Sheets as of-sheets
+use Rattle.roundtrip.proofs.Sheets as of_sheets
 use Rattle.roundtrip.proofs.Books as of_books
 
 -- Every valid sheet is written as a valid book, which reads back as the same sheet.
 pub sheet_there_and_back : (s : List ℕ) → ValidSheet s → ValidBook (book_of (fares_in s)) × (sheet_of (fares_of (book_of (fares_in s))) ≡ s)
 sheet_there_and_back s valid =
     let whole = sheet_whole s valid.laid_out in
-    let same : fares_of (book_of (fares_in s)) ≡ fares_in s = of_books.fares-back (fares_in s) whole in
-    (record { laid_out = of_books.book-laid-out (fares_in s) whole; fares = rw same valid.fares }, ap sheet_of same ∙ of-sheets.sheet-again s valid.laid_out)
+    let same : fares_of (book_of (fares_in s)) ≡ fares_in s = of_books.fares_back (fares_in s) whole in
+    (record { laid_out = of_books.book_laid_out (fares_in s) whole; fares = rw same valid.fares }, ap sheet_of same ∙ of_sheets.sheet_again s valid.laid_out)
 
 -- Every valid book is read as a valid sheet, which is written as the same book, byte for byte.
 pub book_there_and_back : (b : List ℕ) → ValidBook b → Bytes b → ValidSheet (sheet_of (fares_of b)) × (book_of (fares_in (sheet_of (fares_of b))) ≡ b)
 book_there_and_back b valid bytes =
     let whole = book_whole b valid.laid_out in
-    let same : fares_in (sheet_of (fares_of b)) ≡ fares_of b = of-sheets.fares-back (fares_of b) whole in
-    (record { laid_out = of-sheets.sheet-laid-out (fares_of b) whole; fares = rw same valid.fares }, ap book_of same ∙ of_books.book-again b valid.laid_out bytes)
+    let same : fares_in (sheet_of (fares_of b)) ≡ fares_of b = of_sheets.fares_back (fares_of b) whole in
+    (record { laid_out = of_sheets.sheet_laid_out (fares_of b) whole; fares = rw same valid.fares }, ap book_of same ∙ of_books.book_again b valid.laid_out bytes)
 
 -- ---- in the words of the contracts
 

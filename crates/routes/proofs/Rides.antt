@@ -106,13 +106,13 @@ module _ (N : Network) (r : Route) (l : Leg) where
     new : {A : Type 0} (s : List A) (a d : A) → length s ≡ 4 → get_or (set s r.count a) r.count d ≡ a
     new s a d e = get_or-set_same s r.count a d (omega arith)
 
-    pub push-more : (fare link : ℕ) → rides_of (pushed r l fare link) ≡ rides_of r ++ (l ∷ [])
-    push-more fare link = ap (λ (n : ℕ). take n (set r.legs r.count l)) (add-one r.count) ∙ take-suc-set r.legs r.count l (let e = held.sized.legs in omega arith)
+    pub push_more : (fare link : ℕ) → rides_of (pushed r l fare link) ≡ rides_of r ++ (l ∷ [])
+    push_more fare link = ap (λ (n : ℕ). take n (set r.legs r.count l)) (add-one r.count) ∙ take-suc-set r.legs r.count l (let e = held.sized.legs in omega arith)
 
     module _ (fare link : ℕ) (there : Exists N l) (sold : entry_for N l ≡ Sold fare) (walked : Reached N (rides_of r) l (ByLink link)) where
-      links-more : (i : ℕ) → i + 1 < r.count + 1 → link_after N (set r.legs r.count l) i ≡ ByLink (get_or (set r.links r.count link) (i + 1) 0)
+      links_more : (i : ℕ) → i + 1 < r.count + 1 → link_after N (set r.legs r.count l) i ≡ ByLink (get_or (set r.links r.count link) (i + 1) 0)
       unfolding link_after
-      links-more i h = below_more (λ (j : ℕ). (i : ℕ) → j ≡ i + 1 → link_after N (set r.legs r.count l) i ≡ ByLink (get_or (set r.links r.count link) (i + 1) 0)) r.count earlier last (i + 1) h i refl
+      links_more i h = below_more (λ (j : ℕ). (i : ℕ) → j ≡ i + 1 → link_after N (set r.legs r.count l) i ≡ ByLink (get_or (set r.links r.count link) (i + 1) 0)) r.count earlier last (i + 1) h i refl
         where
           earlier : (j : ℕ) → j < r.count → (i : ℕ) → j ≡ i + 1 → link_after N (set r.legs r.count l) i ≡ ByLink (get_or (set r.links r.count link) (i + 1) 0)
           earlier j k i e = rw (same r.legs l no_ride i (omega arith), same r.legs l no_ride (i + 1) (omega arith), same r.links link 0 (i + 1) (omega arith)) (held.links i (omega arith))
@@ -125,8 +125,8 @@ module _ (N : Network) (r : Route) (l : Leg) where
               let q = rides_at r held.sized i no_ride (omega arith) in
               rw (← e, new r.legs l no_ride held.sized.legs, new r.links link 0 held.sized.links, same r.legs l no_ride i (omega arith), q) (sym (rw p at w))
 
-      pub push-held : Held N (pushed r l fare link)
-      push-held = record {
+      pub push_held : Held N (pushed r l fare link)
+      push_held = record {
         sized = record {
           legs = length-set r.legs r.count l ∙ held.sized.legs;
           fares = length-set r.fares r.count fare ∙ held.sized.fares;
@@ -139,7 +139,7 @@ module _ (N : Network) (r : Route) (l : Leg) where
         fares = below_more (λ (i : ℕ). entry_for N (ride_at (set r.legs r.count l) i) ≡ Sold (get_or (set r.fares r.count fare) i 0)) r.count
             (λ i h. rw (same r.legs l no_ride i h, same r.fares fare 0 i h) (held.fares i h))
             (rw (new r.legs l no_ride held.sized.legs, new r.fares fare 0 held.sized.fares) sold);
-        links = links-more;
+        links = links_more;
       }
 
     pub extended : (fare link : ℕ) → sold_for N l ≡ Sold fare → Reached N (rides_of r) l (ByLink link) → repeats (rides_of r) l ≡ false
@@ -149,6 +149,10 @@ module _ (N : Network) (r : Route) (l : Leg) where
         let s = sold_for_lem N l fare sold in
         record {
           test = rw (s.0, ← walked.test, fresh);
-          held = λ t. push-held fare link ((exists_is N l).0 s.0) s.1 walked;
-          more = λ t. push-more fare link;
+          held = λ t. push_held fare link ((exists_is N l).0 s.0) s.1 walked;
+          more = λ t. push_more fare link;
         }
+
+-- a route without rides needs no link for its first one
+pub reach_from_none : (N : Network) (r : Route) (l : Leg) → Sized r → r.count ≡ 0 → Reached N (rides_of r) l (ByLink 0)
+reach_from_none N r l s e = reach_first N (rides_of r) l (rides_length r s ∙ e)

@@ -26,13 +26,13 @@ module _ (N : Network) (R : List Leg) (r : Route) (i : ℕ) (held : Held N r) (i
     tested : s.good ≡ good_next N (take i R) (ride_at R i)
     tested = rw (is, ride) at step.test
 
-    pub turn-good : s.good ≡ true → ride_check N R i ≡ Good
+    pub turn_good : s.good ≡ true → ride_check N R i ≡ Good
     unfolding ride_check
-    turn-good e = demand_holds _ _ _ (sym tested ∙ e)
+    turn_good e = demand_holds _ _ _ (sym tested ∙ e)
 
-    pub turn-bad : s.good ≡ false → ride_check N R i ≡ Refused (BadRide i)
+    pub turn_bad : s.good ≡ false → ride_check N R i ≡ Refused (BadRide i)
     unfolding ride_check
-    turn-bad e = demand_fails _ _ _ (sym tested ∙ e)
+    turn_bad e = demand_fails _ _ _ (sym tested ∙ e)
 
     pub turn_more : s.good ≡ true → rides_of s.route ≡ take (i + 1) R
     turn_more e =
@@ -49,17 +49,17 @@ module _ (N : Network) (bytes : List ℕ) (r : Route) where
       refused q = record { judged = q; held = λ g. absurd (refused_not_good g); is = λ g. absurd (refused_not_good g) }
 
   module _ (long : good_length (length bytes) ≡ true) (i : ℕ) (before : first_below (ride_check N (route_of bytes)) i ≡ Good) where
-    pub read-bad : i < length (route_of bytes) → ride_check N (route_of bytes) i ≡ Refused (BadRide i) → Read N bytes (record { judged = Refused (BadRide i); route = r })
+    pub read_bad : i < length (route_of bytes) → ride_check N (route_of bytes) i ≡ Refused (BadRide i) → Read N bytes (record { judged = Refused (BadRide i); route = r })
     unfolding route_check
-    read-bad h e = record {
+    read_bad h e = record {
       judged = sym (demand_holds _ _ _ long ∙ first_is (ride_check N (route_of bytes)) (length (route_of bytes)) i (BadRide i) before h e);
       held = λ g. absurd (refused_not_good g);
       is = λ g. absurd (refused_not_good g);
     }
 
-    pub read-good : i ≡ length (route_of bytes) → Held N r → rides_of r ≡ take i (route_of bytes) → Read N bytes (record { judged = Good; route = r })
+    pub read_good : i ≡ length (route_of bytes) → Held N r → rides_of r ≡ take i (route_of bytes) → Read N bytes (record { judged = Good; route = r })
     unfolding route_check
-    read-good e held is = record {
+    read_good e held is = record {
       judged = sym (demand_holds _ _ _ long ∙ rw e at before);
       held = λ g. held;
       is = λ g. is ∙ ap (λ (n : ℕ). take n (route_of bytes)) e ∙ take-length (route_of bytes);

@@ -9,12 +9,13 @@ use crate::{Route, Step};
 use outline::{Judged, Leg, Refusal};
 
 // What is found of a given route, and where it is good, its rides.
-#[derive(Drop)]
+#[derive(Clone, Copy)]
 pub struct Given {
     pub judged: Judged,
     pub route: Route,
 }
 
+#[tactic(auto, unfolding(outline::specs::Routes::good_length, outline::specs::Tests::either))]
 fn good_length(n: usize) -> bool
     ensures { result ≡ good_length n }
 {

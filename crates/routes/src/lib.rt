@@ -1,4 +1,6 @@
 // Routes as they are held, and the ride that may come next.
+#![tactic(auto)]
+
 pub mod given;
 
 ghost use Rattle.std.specs.Prelude.{◌≡◌, ◌<◌, true, []};
@@ -15,7 +17,7 @@ use outline::{Entry, Joined, Leg, Station};
 pub const MOST_RIDES: usize = 4;
 
 // Up to four rides, what each costs, and the link by which each but the first is reached.
-#[derive(Drop)]
+#[derive(Clone, Copy)]
 pub struct Route {
     pub legs: [Leg; 4],
     pub fares: [u16; 4],
@@ -24,7 +26,7 @@ pub struct Route {
 }
 
 // A route with one more ride, where that ride is good; else the route as it was.
-#[derive(Drop)]
+#[derive(Clone, Copy)]
 pub struct Step {
     pub good: bool,
     pub route: Route,
@@ -143,6 +145,7 @@ impl Route {
     }
 
     // The link from the last ride to a ride, or none; the first ride needs no link.
+    #[tactic(auto, using(crate::proofs::Rides::reach_from_none))]
     fn reach(self, book: &[u8], l: Leg) -> Joined
         requires { LaidOut book.now × Sized self }
         ensures { Reached (network book.now) (rides_of self) l result }

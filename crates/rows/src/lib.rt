@@ -1,4 +1,6 @@
 // The rows of the pair lister's output: a row is the lines from one station, or the line of a refused book. They are put one after the other.
+#![tactic(auto)]
+
 ghost use Rattle.std.specs.Prelude.{◌≡◌, ◌≤◌, length};
 ghost use Rattle.outline.specs.Book.{network};
 ghost use Rattle.outline.specs.Valid.{ValidBook};
@@ -10,7 +12,7 @@ ghost use Rattle.rows.specs.Rows.{first_row, row_text, row_after_from, row_after
 use outline::{Judged, Refusal, Station};
 
 // What is put next: the line of a refused book, the lines from a station, or nothing more.
-#[derive(Drop)]
+#[derive(Clone, Copy)]
 pub enum Row {
     Refusal(Refusal),
     From(Station),

@@ -1,4 +1,6 @@
 // The rules: the first bad one.
+#![tactic(auto)]
+
 ghost use Rattle.std.specs.Prelude.{◌≡◌, ◌≤◌, ◌<◌, length};
 ghost use Rattle.outline.specs.Tests.{all_below};
 ghost use Rattle.outline.specs.Book.{network};
@@ -67,6 +69,7 @@ fn good_map(map: &[u8], items: u8) -> bool
 }
 
 // Whether rule k's three maps are right, where its rides and companies are.
+#[tactic(auto, using(crate::proofs::Maps::last_company))]
 fn good_maps(book: &[u8], k: u8) -> bool
     requires { LaidOut book.now × (k < (network book.now).rules) × GoodCompanies (network book.now) ((network book.now).rule k) }
     ensures { result ≡ good_maps (network book.now) ((network book.now).rule k) }

@@ -2,7 +2,7 @@
 use Prim.Native.Nat.{ℕ, ◌+◌, ◌-◌, ◌≤◌, ◌<◌}
 use mathlib.Core.Path.{◌≡◌, refl, sym, ap, subst, ◌∙◌}
 use mathlib.Core.Bool.{Bool, true, false}
-use mathlib.Core.Logic.{◌⊎◌, ⊎_elim}
+use mathlib.Core.Logic.{⊎_elim}
 use mathlib.Core.List.{List, [], ◌∷◌, ◌++◌}
 use native.Mathlib.Omega.{arith}
 use native.Mathlib.Nat.{eq-or-lt_of_le}
@@ -68,8 +68,8 @@ module _ (N : Network) (path : Route) (x y : Station) where
   }
 
   module _ (s : Step) (w : Toward N path x y s) (t : s.good ≡ true) where
-    pub step-good : AllGood N (rides_of path) → AllGood N (rides_of s.route)
-    step-good good = subst (AllGood N) (sym (w.more t)) (good_more N (rides_of path) (ride_to x y) good (w.good t))
+    pub step_good : AllGood N (rides_of path) → AllGood N (rides_of s.route)
+    step_good good = subst (AllGood N) (sym (w.more t)) (good_more N (rides_of path) (ride_to x y) good (w.good t))
 
     pub step_count : Sized path → s.route.count ≡ path.count + 1
     step_count sized =
@@ -98,16 +98,16 @@ module _ (N : Network) (goal : Station) (path : Route) (x : Station) (left k : �
 
   module _ (s : Step) (w : Toward N path x Near s) where
     -- the path with the ride to the link has alighted at its near end
-    pub link-reached : s.good ≡ true → k < N.links → Alighted N (rides_of s.route) k
-    link-reached t known = subst (λ (r : List Leg). Alighted N r k) (sym (w.more t)) (record {
+    pub link_reached : s.good ≡ true → k < N.links → Alighted N (rides_of s.route) k
+    link_reached t known = subst (λ (r : List Leg). Alighted N r k) (sym (w.more t)) (record {
       some = omega (arith, longer (rides_of path) (ride_to x Near));
       known = known;
       there = subst (λ (r : Leg). alighted_at r ≡ near_end (N.link k) r.company) (sym (final_ride (rides_of path) (ride_to x Near))) (λ i. record { company = w.company t i; number = Near.number });
     })
 
-    pub link-taken : {b c : Best} → s.good ≡ true → Improves N b c (From N goal left (rides_of s.route) (beyond N (rides_of s.route) k))
+    pub link_taken : {b c : Best} → s.good ≡ true → Improves N b c (From N goal left (rides_of s.route) (beyond N (rides_of s.route) k))
         → Improves N b c (Over N goal left (rides_of path) x k)
-    link-taken t i =
+    link_taken t i =
         let far : beyond N (rides_of path ++ (ride_to x Near ∷ [])) k ≡ far_end (N.link k) x.company = ap (λ (r : Leg). far_end (N.link k) r.company) (final_ride (rides_of path) (ride_to x Near)) in
         improves_same N (Over N goal left (rides_of path) x k) i
         (λ R f. record {
@@ -117,8 +117,8 @@ module _ (N : Network) (goal : Station) (path : Route) (x : Station) (left k : �
         })
         (λ R o. subst (λ (r : List Leg). From N goal left r (beyond N r k) R) (sym (w.more t)) (subst (λ (y : Station). From N goal left (rides_of path ++ (ride_to x Near ∷ [])) y R) (sym far) o.onward))
 
-    pub link-missed : (b : Best) → s.good ≡ false → Sound N b → Improves N b b (Over N goal left (rides_of path) x k)
-    link-missed b f sound = improves_none N b (Over N goal left (rides_of path) x k) sound (λ R o. w.bad f o.company o.good)
+    pub link_missed : (b : Best) → s.good ≡ false → Sound N b → Improves N b b (Over N goal left (rides_of path) x k)
+    link_missed b f sound = improves_none N b (Over N goal left (rides_of path) x k) sound (λ R o. w.bad f o.company o.good)
 
 -- over the link, the far end is where the path has come by it
 pub link_walked : (N : Network) (p : List Leg) (k : ℕ) → GoodLinks N → Alighted N p k → Arrived N p (beyond N p k) k

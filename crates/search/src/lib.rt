@@ -1,4 +1,6 @@
 // The cheapest route, by a search that goes from ride to change and from change to ride.
+#![tactic(auto)]
+
 ghost use Rattle.std.specs.Prelude.{◌≡◌, ◌+◌, ◌-◌, ◌≤◌, ◌<◌, false, length, get_or, ltb};
 ghost use Rattle.outline.specs.Book.{network};
 ghost use Rattle.outline.specs.Valid.{LaidOut, ValidBook};

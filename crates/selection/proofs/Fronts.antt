@@ -62,31 +62,31 @@ module _ (earn : Earn) (rules at m : ℕ) (rest held : Selection) (rs : Sound ea
     right : Most (earn at m) rules k y
     right = subst (Right (earn at m) rules) (sym best ∙ e) (rule_right (earn at m) rules)
 
-    front-runs : runs_in front ≡ record { first = at; rides = m; rule = k } ∷ runs_in rest
+    front_runs : runs_in front ≡ record { first = at; rides = m; rule = k } ∷ runs_in rest
     unfolding front
-    front-runs = runs_after rest.count _ rest.one rest.two rs.few
+    front_runs = runs_after rest.count _ rest.one rest.two rs.few
 
-    front-sound : y ≤ 65535 → Sound earn (rest.count + 1) front
+    front_sound : y ≤ 65535 → Sound earn (rest.count + 1) front
     unfolding front total
-    front-sound small = record {
-      earned = (let a = yen_is (earn at m k) y right.earned in let t = rs.earned in let z : y + rest.total ≡ yen (earn at m k) + total earn (runs_in rest) = omega arith in z) ∙ ap (total earn) (sym front-runs);
+    front_sound small = record {
+      earned = (let a = yen_is (earn at m k) y right.earned in let t = rs.earned in let z : y + rest.total ≡ yen (earn at m k) + total earn (runs_in rest) = omega arith in z) ∙ ap (total earn) (sym front_runs);
       small = omega (arith, rs.small);
       few = omega arith;
       two = omega (arith, rs.few);
     }
 
-    pub one-pays : (x : ℕ) (f r : Selection) → x ≡ y → x < 65536
+    pub one_pays : (x : ℕ) (f r : Selection) → x ≡ y → x < 65536
         → f ≡ record { one = record { first = at; rides = m; rule = k }; two = rest.one; count = rest.count + 1; total = x + rest.total } → r ≡ rather_than f held
         → Chosen earn (held.count + rest.count + 1) (or_run earn rules at m (runs_in rest) (runs_in held)) r
     unfolding front or_run with_run
-    one-pays x f r same small made g =
-        let sound = front-sound (omega arith) in
+    one_pays x f r same small made g =
+        let sound = front_sound (omega arith) in
         let is_front : f ≡ front = made ∙ ap (λ (z : ℕ). record { one = record { first = at; rides = m; rule = k }; two = rest.one; count = rest.count + 1; total = z + rest.total }) same in
         subst (Chosen earn (held.count + rest.count + 1) (or_run earn rules at m (runs_in rest) (runs_in held))) (sym (g ∙ ap (λ (z : Selection). rather_than z held) is_front)) (record {
           sound = held_one (Sound earn (held.count + rest.count + 1)) front held
               (record { earned = sound.earned; small = sound.small; few = omega (arith, sound.few); two = sound.two })
               (record { earned = hs.earned; small = hs.small; few = omega arith; two = hs.two });
-          is = held_is earn _ _ front held sound hs ∙ ap (λ (z : List Run). rather earn z (runs_in held)) front-runs ∙ ap (with_run earn at m (runs_in rest) (runs_in held)) (sym e ∙ best);
+          is = held_is earn _ _ front held sound hs ∙ ap (λ (z : List Run). rather earn z (runs_in held)) front_runs ∙ ap (with_run earn at m (runs_in rest) (runs_in held)) (sym e ∙ best);
         })
 
 -- ---- what is chosen, from what the parts hold

@@ -1,4 +1,6 @@
 // The selection of discounted runs that counts.
+#![tactic(auto)]
+
 ghost use Rattle.std.specs.Prelude.{◌≡◌, ◌+◌, ◌≤◌, ◌<◌, []};
 ghost use Rattle.outline.specs.Book.{network};
 ghost use Rattle.outline.specs.Selections.{Earn};
@@ -12,7 +14,7 @@ use outline::{Payer, Run, Saving};
 use routes::Route;
 
 // At most two runs, from left to right, and what they earn.
-#[derive(Drop)]
+#[derive(Clone, Copy)]
 pub struct Selection {
     pub one: Run,
     pub two: Run,
@@ -87,6 +89,7 @@ impl Selection {
     }
 
     // This one, unless it earns less than what is held, or as much with more runs.
+    #[tactic(auto, unfolding(crate::specs::Chosen::rather_than, outline::specs::Tests::choose))]
     fn rather_than(self, held: Selection) -> Selection
         ensures { result ≡ rather_than self held }
     {

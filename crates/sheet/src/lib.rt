@@ -1,4 +1,6 @@
 // A book to its sheet, and a sheet to its book.
+#![tactic(auto)]
+
 pub mod trips;
 
 ghost use Rattle.std.specs.Prelude.{◌≡◌};
@@ -36,6 +38,7 @@ pub fn read(book: &[u8], sheet: &mut [u16]) -> Written
 }
 
 // The book of a good sheet, where there is room for it.
+#[tactic(auto, using(crate::proofs::Room::answers, crate::proofs::Room::leaves))]
 fn write_good(sheet: &[u16], book: &mut [u8]) -> Written
     requires { sheet_check sheet.now ≡ Good }
     ensures value { result ≡ write_answer sheet.now book.old }

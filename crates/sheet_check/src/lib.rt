@@ -1,4 +1,6 @@
 // A sheet judged: its counts, its companies' numbers and its end, and then its entries, links and rules.
+#![tactic(auto)]
+
 pub mod links;
 pub mod parts;
 pub mod rules;

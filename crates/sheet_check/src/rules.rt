@@ -63,6 +63,7 @@ fn in_map(map: &[u16], i: usize) -> bool
 }
 
 // Whether each number of a map is a byte.
+#[tactic(auto, using(crate::proofs::Bytes::not_bytes))]
 fn are_bytes(map: &[u16]) -> bool
     ensures { result ≡ all_below (λ i. ltb (get_or map.now i 0) 256) (length map.now) }
 {

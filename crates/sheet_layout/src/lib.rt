@@ -1,4 +1,6 @@
 // The layout of a sheet: where its counts, tables, links and rules stand. No other file but numbers/src/lib.rt knows a place or a size in it.
+#![tactic(auto)]
+
 ghost use Rattle.std.specs.Prelude.{◌≡◌, ◌∷◌, ◌++◌, ℕ, ◌+◌, ◌*◌, ◌≤◌, ◌<◌, length, get_or};
 ghost use Rattle.outline.specs.Tests.{part};
 ghost use Rattle.outline.specs.Sheet.{companies_in, links_in, rules_in, table_numbers, company_start, fare_index, link_numbers, rule_numbers, rule_in, table_in};

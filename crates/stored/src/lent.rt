@@ -1,9 +1,11 @@
 // The lists that are lent to the reader and to the writer, and what stands in them afterwards.
-ghost use Rattle.std.specs.Prelude.{◌≤◌, length};
+ghost use Rattle.std.specs.Prelude.{◌≡◌, ◌≤◌, IfOk, OnErr, length};
 ghost use Rattle.text.specs.Lines.{next_line};
 
 use crate::{answers, sum};
 use layout::bytes::number;
+use std::io;
+use std::io::Write;
 
 // What stands in a lent list before anything is written.
 const BYTE: u8 = 165;
@@ -64,8 +66,17 @@ fn book_back(data: &[u8], n: usize) -> bool {
 }
 
 // Reads the book of so many bytes.
-pub fn read(data: &[u8], n: usize, lent: usize, out: &mut [u8], end: usize) -> usize
-    ensures { next_line end (length out.old) ≤ result }
+pub fn read<W: Write>(
+    to: &mut W,
+    data: &[u8],
+    n: usize,
+    lent: usize,
+    out: &mut [u8],
+    end: usize,
+) -> io::Result<usize>
+    ensures ok { IfOk result (λ r. next_line end (length out.old) ≤ r) }
+    ensures err { OnErr result (out.new ≡ out.old) }
+    ensures full { OnErr result (next_line end (length out.old) ≡ 0) }
 {
     let mut space = numbers();
     let all: &mut [u16] = &mut space;
@@ -74,12 +85,21 @@ pub fn read(data: &[u8], n: usize, lent: usize, out: &mut [u8], end: usize) -> u
     let sheet = &mut all[..room];
     let written = sheet::read(&data[..long], sheet);
     let sum = sum::of_numbers(sheet);
-    answers::put(out, end, written, sum, book_back(data, n))
+    answers::put(to, out, end, written, sum, book_back(data, n))
 }
 
 // Writes the book of the sheet that the first n of these numbers are.
-fn write(given: &[u16], n: usize, lent: usize, out: &mut [u8], end: usize) -> usize
-    ensures { next_line end (length out.old) ≤ result }
+fn write<W: Write>(
+    to: &mut W,
+    given: &[u16],
+    n: usize,
+    lent: usize,
+    out: &mut [u8],
+    end: usize,
+) -> io::Result<usize>
+    ensures ok { IfOk result (λ r. next_line end (length out.old) ≤ r) }
+    ensures err { OnErr result (out.new ≡ out.old) }
+    ensures full { OnErr result (next_line end (length out.old) ≡ 0) }
 {
     let mut space = bytes();
     let all: &mut [u8] = &mut space;
@@ -88,15 +108,24 @@ fn write(given: &[u16], n: usize, lent: usize, out: &mut [u8], end: usize) -> us
     let book = &mut all[..room];
     let written = sheet::write(&given[..long], book);
     let sum = sum::of_bytes(book);
-    answers::put(out, end, written, sum, sheet_back(given, n))
+    answers::put(to, out, end, written, sum, sheet_back(given, n))
 }
 
 // Writes the book of the sheet of so many numbers, two bytes each.
-pub fn write_numbers(data: &[u8], n: usize, lent: usize, out: &mut [u8], end: usize) -> usize
-    ensures { next_line end (length out.old) ≤ result }
+pub fn write_numbers<W: Write>(
+    to: &mut W,
+    data: &[u8],
+    n: usize,
+    lent: usize,
+    out: &mut [u8],
+    end: usize,
+) -> io::Result<usize>
+    ensures ok { IfOk result (λ r. next_line end (length out.old) ≤ r) }
+    ensures err { OnErr result (out.new ≡ out.old) }
+    ensures full { OnErr result (next_line end (length out.old) ≡ 0) }
 {
     let mut space = numbers();
     let sheet: &mut [u16] = &mut space;
     numbers_of(data, sheet, n);
-    write(sheet, n, lent, out, end)
+    write(to, sheet, n, lent, out, end)
 }

@@ -5,7 +5,7 @@ ghost use Rattle.std.specs.Prelude.{◌≡◌, length};
 // More than the longest list that is lent.
 const MOST: usize = 65536;
 
-#[derive(Drop)]
+#[derive(Clone, Copy)]
 pub struct Line {
     // The letter that it begins with.
     pub kind: u8,

@@ -8,33 +8,48 @@
 //   book or the sheet comes back from a round trip with room enough, and else `lost`.
 // Bytes have two hex digits, numbers of a sheet four. `<D,L>` among the digits stands for L bytes like those that begin D bytes before. What
 // is neither is passed over, so that `-` is the empty book. A line is answered by its first 65,536 bytes.
+#![tactic(auto)]
+
 mod answers;
 mod asked;
 mod lent;
 mod line;
 mod sum;
 
-ghost use Rattle.std.specs.Prelude.{◌≡◌, ◌⊎◌, ◌≤◌, length};
+ghost use Rattle.std.specs.Prelude.{◌≡◌, ◌⊎◌, ◌≤◌, IfOk, OnErr, length};
 ghost use Rattle.text.specs.Lines.{next_line};
 
-use libc::STDIN_FILENO;
 use line::Line;
+use std::io;
+use std::io::Write;
 
 // Runs a line, and puts its answer after the first `end` bytes of the buffer.
-fn run(line: Line, data: &[u8], out: &mut [u8], end: usize) -> usize
-    ensures { (result ≡ 0) ⊎ (next_line end (length out.old) ≤ result) }
+fn run<W: Write>(
+    to: &mut W,
+    line: Line,
+    data: &[u8],
+    out: &mut [u8],
+    end: usize,
+) -> io::Result<usize>
+    ensures ok { IfOk result (λ r. (r ≡ 0) ⊎ (next_line end (length out.old) ≤ r)) }
+    ensures err { OnErr result (out.new ≡ out.old) }
 {
     let kind = line.kind;
     match kind {
-        b'r' => lent::read(data, line.digits / 2, line.lent, out, end),
-        b'w' => lent::write_numbers(data, line.digits / 4, line.lent, out, end),
-        _ => asked::run(line, data, out, end),
+        b'r' => lent::read(to, data, line.digits / 2, line.lent, out, end),
+        b'w' => lent::write_numbers(to, data, line.digits / 4, line.lent, out, end),
+        _ => asked::run(to, line, data, out, end),
     }
 }
 
-// Runs the lines that end in a block of the input, and answers where the line stands that goes on after it.
-fn run_block(block: &[u8], data: &mut [u8], before: Line) -> Line {
-    let mut space = io::buffer();
+// Runs the lines that end in a block of the input, and answers where the line stands that goes on after it. An error is the writer's.
+fn run_block<W: Write>(
+    to: &mut W,
+    block: &[u8],
+    data: &mut [u8],
+    before: Line,
+) -> io::Result<Line> {
+    let mut space = [0u8; 4096];
     let out: &mut [u8] = &mut space;
     let mut end: usize = 0;
     let mut state = before;
@@ -42,31 +57,34 @@ fn run_block(block: &[u8], data: &mut [u8], before: Line) -> Line {
     while i < block.len() {
         let x = block[i];
         if x == b'\n' {
-            end = run(state, data, out, end);
+            end = run(to, state, data, out, end)?;
             state = Line::new();
         } else {
             state = state.next(data, x);
         }
         i += 1;
     }
-    text::lines::write(out, end);
-    state
+    text::lines::write(to, out, end)?;
+    Ok(state)
 }
 
 // A proved loop has to end, and nothing says that the input does. So the loop counts its turns down, from a number that no run uses up.
-fn main() {
-    let mut block = io::large_buffer();
-    let mut bytes = io::large_buffer();
+fn main(rt: HostRuntime) -> io::Result<()> {
+    let mut from = rt.stdin();
+    let mut to = rt.stdout();
+    let mut block = [0u8; 65536];
+    let mut bytes = [0u8; 65536];
     let input: &mut [u8] = &mut block;
     let data: &mut [u8] = &mut bytes;
     let mut state = Line::new();
     let mut turns = u64::MAX;
     while turns > 0 {
-        let n = io::read_full(STDIN_FILENO, input);
+        let n = text::blocks::read_full(&mut from, input)?;
         if n == 0 {
-            return;
+            return Ok(());
         }
-        state = run_block(&input[..n], data, state);
+        state = run_block(&mut to, &input[..n], data, state)?;
         turns -= 1;
     }
+    Ok(())
 }

@@ -3,7 +3,7 @@ ghost use Rattle.std.specs.Prelude.{◌<◌};
 
 const BASE: u64 = 65521;
 
-#[derive(Drop)]
+#[derive(Clone, Copy)]
 pub struct Sum {
     low: u64,
     high: u64,

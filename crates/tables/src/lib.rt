@@ -1,4 +1,6 @@
 // The companies' tables: the first bad entry.
+#![tactic(auto)]
+
 ghost use Rattle.std.specs.Prelude.{◌≡◌, ℕ, ◌+◌, ◌<◌};
 ghost use Rattle.outline.specs.Book.{station_count, entry_place, table_of, fares_of};
 ghost use Rattle.outline.specs.Valid.{LaidOut};

@@ -44,8 +44,8 @@ pub record TellsCheapest (book : List ℕ) (q : Question) (lent : List ℕ) (r :
 
 -- a question, of its five numbers
 abbrev pub question : ℕ → ℕ → ℕ → ℕ → ℕ → Question
-question from-company from-station to-company to-station limit = record {
-  from = record { company = from-company; number = from-station };
-  to = record { company = to-company; number = to-station };
+question from_company from_station to_company to_station limit = record {
+  from = record { company = from_company; number = from_station };
+  to = record { company = to_company; number = to_station };
   limit = limit;
 }

@@ -1,9 +1,11 @@
 // The line of an answer.
-ghost use Rattle.std.specs.Prelude.{◌≤◌, length};
+ghost use Rattle.std.specs.Prelude.{◌≡◌, ◌≤◌, IfOk, OnErr, length};
 ghost use Rattle.text.specs.Lines.{next_line};
 
 use crate::lines;
 use outline::{Answer, Judged, Paid, Ride};
+use std::io;
+use std::io::Write;
 
 fn put_after_space(out: &mut [u8], at: usize, x: u8) -> usize
     ensures { at ≤ result }
@@ -61,13 +63,15 @@ fn put_price(out: &mut [u8], at: usize, a: Answer) -> usize
 }
 
 // Puts the line of an answer after the first n bytes of the buffer, and answers where it ends.
-pub fn put(out: &mut [u8], n: usize, a: Answer) -> usize
-    ensures { next_line n (length out.old) ≤ result }
+pub fn put<W: Write>(to: &mut W, out: &mut [u8], n: usize, a: Answer) -> io::Result<usize>
+    ensures ok { IfOk result (λ end. next_line n (length out.old) ≤ end) }
+    ensures err { OnErr result (out.new ≡ out.old) }
+    ensures full { OnErr result (next_line n (length out.old) ≡ 0) }
 {
-    let at = lines::room(out, n);
+    let at = lines::room(to, out, n)?;
     let judged = a.judged;
     match judged {
-        Judged::Good => put_price(out, at, a),
-        Judged::Refused(x) => lines::put_refusal(out, at, x),
+        Judged::Good => Ok(put_price(out, at, a)),
+        Judged::Refused(x) => Ok(lines::put_refusal(out, at, x)),
     }
 }

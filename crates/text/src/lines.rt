@@ -1,34 +1,42 @@
 // Lines of text, gathered in a buffer.
-ghost use Rattle.std.specs.Prelude.{◌≡◌, ◌≤◌, length};
+ghost use Rattle.std.specs.Prelude.{◌≡◌, ◌≤◌, IfOk, OnErr, OnOk, length, take};
+ghost use Rattle.std.specs.Io.KnownBytes.{Appends};
 ghost use Rattle.text.specs.Lines.{Wrote, next_line};
 
 use book::refusal;
-use libc::STDOUT_FILENO;
 use outline::Refusal;
+use std::io;
+use std::io::Write;
 
 // More than the longest line has.
 const ROOM: usize = 128;
 
-// Writes the first n bytes of the buffer.
-pub fn write(out: &[u8], n: usize) {
+// Writes the first n bytes of the buffer. An error is the writer's, and says nothing of what it took before.
+pub fn write<W: Write>(to: &mut W, out: &[u8], n: usize) -> io::Result<()>
+    ensures ok { n ≤ length out.now → OnOk result (Appends (W.contents to.old) (W.contents to.new) (take n out.now)) }
+    ensures err { OnErr result (n ≤ length out.now) }
+{
     if n <= out.len() {
-        io::write_all(STDOUT_FILENO, &out[0..n]);
+        return to.write_all(&out[0..n]);
     }
+    Ok(())
 }
 
 // Where the next line goes. Where little room is left after the first n bytes of the buffer, these are written, and it goes to the start.
-pub fn room(out: &[u8], n: usize) -> usize
-    ensures { result ≡ next_line n (length out.now) }
+#[tactic(auto, unfolding(outline::specs::Tests::both, outline::specs::Tests::choose))]
+pub fn room<W: Write>(to: &mut W, out: &[u8], n: usize) -> io::Result<usize>
+    ensures ok { IfOk result (λ at. at ≡ next_line n (length out.now)) }
+    ensures err { OnErr result (next_line n (length out.now) ≡ 0) }
 {
     if out.len() <= n {
-        write(out, n);
-        return 0;
+        write(to, out, n)?;
+        return Ok(0);
     }
     if out.len() - n < ROOM {
-        write(out, n);
-        return 0;
+        write(to, out, n)?;
+        return Ok(0);
     }
-    n
+    Ok(n)
 }
 
 // Puts text at `at`, as far as there is room for it, and answers where it ends.
@@ -51,9 +59,11 @@ pub fn put_text(out: &mut [u8], at: usize, text: &[u8]) -> usize
 pub fn put_number(out: &mut [u8], at: usize, n: u64) -> usize
     ensures { at ≤ result }
 {
-    let mut text = [0u8; 20];
-    let k = io::decimal(n, &mut text);
-    put_text(out, at, &text[..k])
+    let mut end = at;
+    if 10 <= n {
+        end = put_number(out, at, n / 10);
+    }
+    put_text(out, end, &[b'0' + (n % 10) as u8])
 }
 
 // Puts `refused`, the refusal's number and its place.

@@ -1,4 +1,6 @@
 // A book filled from a sheet: each body is written into its own part of the lent buffer.
+#![tactic(auto)]
+
 ghost use Rattle.std.specs.Prelude.{◌≡◌, ◌+◌, ◌*◌, ◌≤◌, ◌<◌, length};
 ghost use Rattle.outline.specs.Tests.{in_order};
 ghost use Rattle.outline.specs.Sheet.{companies_in, fares_in};

@@ -1,0 +1,16 @@
+-- `layout::company_length` meets its contract.
+use native.Mathlib.Omega.{arith}
+use Rattle.laws.proofs.Reading.{small_product}
+use Rattle.layout.proofs.company_length.Goals as goal
+
+pub overflow_mul-result : goal.overflow_mul-result
+overflow_mul-result c = omega (arith, small_product 255 {m = c.wide-m.result} {n = c.wide-m.result} (omega arith) (omega arith))
+
+pub overflow_mul-result-2 : goal.overflow_mul-result-2
+overflow_mul-result-2 c = omega (arith, small_product 255 {m = c.wide-m.result} {n = c.wide-m.result} (omega arith) (omega arith))
+
+pub overflow_add-result : goal.overflow_add-result
+overflow_add-result c = omega (arith, small_product 255 {m = c.wide-m.result} {n = c.wide-m.result} (omega arith) (omega arith))
+
+pub returns : goal.returns
+returns c = cc

@@ -1,0 +1,8 @@
+-- `listing::put_answer` meets its contract.
+use Rattle.outline.specs.Lister.{answer_fields}
+use Rattle.listing.proofs.Putting.{put_joined}
+use Rattle.listing.proofs.put_answer.Goals as goal
+
+pub returns : goal.returns
+unfolding answer_fields
+returns c = put_joined 6 6 c.put_fare-rides.ensures (rw c.wide.ensures.0 at c.put_field.ensures) c.requires

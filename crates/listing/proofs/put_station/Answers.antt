@@ -1,0 +1,8 @@
+-- `listing::put_station` meets its contract.
+use Rattle.outline.specs.Lister.{station_fields}
+use Rattle.listing.proofs.Putting.{put_joined}
+use Rattle.listing.proofs.put_station.Goals as goal
+
+pub returns : goal.returns
+unfolding station_fields
+returns c = put_joined 6 6 (rw c.wide.ensures.0 at c.put_field-next.ensures) (rw c.wide-2.ensures.0 at c.put_field.ensures) c.requires

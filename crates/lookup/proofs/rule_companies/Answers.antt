@@ -1,0 +1,11 @@
+-- `lookup::rule_companies` meets its contract.
+use mathlib.Core.Path.{◌∙◌}
+use Rattle.laws.proofs.Reading.{rule_fits, rule_read}
+use Rattle.outline.specs.Fares.{Rule}
+use Rattle.lookup.proofs.rule_companies.Goals as goal
+
+pub rule_companies-requires : goal.rule_companies-requires
+rule_companies-requires c = rw c.rules_body.ensures (rule_fits _ c.requires.0 _ c.requires.1)
+
+pub returns : goal.returns
+returns c = c.rule_companies.ensures ∙ rule_read _ (λ (r : Rule). r.companies) _ _ c.rules_body.ensures c.requires.1

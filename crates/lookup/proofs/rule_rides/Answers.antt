@@ -1,0 +1,11 @@
+-- `lookup::rule_rides` meets its contract.
+use mathlib.Core.Path.{◌∙◌}
+use Rattle.laws.proofs.Reading.{rule_fits, rule_read}
+use Rattle.outline.specs.Fares.{Rule}
+use Rattle.lookup.proofs.rule_rides.Goals as goal
+
+pub rule_rides-requires : goal.rule_rides-requires
+rule_rides-requires c = rw c.rules_body.ensures (rule_fits _ c.requires.0 _ c.requires.1)
+
+pub returns : goal.returns
+returns c = c.rule_rides.ensures ∙ rule_read _ (λ (r : Rule). r.rides) _ _ c.rules_body.ensures c.requires.1

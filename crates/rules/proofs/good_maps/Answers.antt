@@ -1,0 +1,43 @@
+-- `rules::good_maps` meets its contract.
+use native.Mathlib.Omega.{arith}
+use mathlib.Core.Path.{sym, ◌∙◌}
+use Rattle.outline.specs.Judging.{good_maps}
+use Rattle.outline.specs.Tests.{both}
+use Rattle.laws.proofs.Reading.{rule_sized}
+use Rattle.rules.proofs.good_maps.Goals as goal
+
+pub bounds-companies-0 : goal.bounds-companies-0
+bounds-companies-0 c = rw c.rule_companies-companies.ensures (omega (arith, (rule_sized _ c.requires.0 _ c.requires.1).companies))
+
+pub stations-requires : goal.stations-requires
+stations-requires c = (c.requires.0, rw c.rule_companies-companies.ensures c.requires.2.first)
+
+pub good_map-requires : goal.good_map-requires
+good_map-requires c = rw c.rule_boarding.ensures (omega (arith, (rule_sized _ c.requires.0 _ c.requires.1).boarding))
+
+pub returns-then-not-good_map : goal.returns-then-not-good_map
+unfolding good_maps both
+returns-then-not-good_map c = rw (rw (c.rule_boarding.ensures, c.stations.ensures, c.rule_companies-companies.ensures) at (sym c.good_map.ensures ∙ c.if-not-good_map.true))
+
+pub stations-requires-2 : goal.stations-requires-2
+stations-requires-2 c = (c.requires.0, rw (c.rule_companies-companies.ensures, c.wide-last.ensures.0, c.rule_rides.ensures) c.requires.2.last)
+
+pub good_map-requires-2 : goal.good_map-requires-2
+good_map-requires-2 c = rw c.rule_alighting.ensures (omega (arith, (rule_sized _ c.requires.0 _ c.requires.1).alighting))
+
+pub returns-then-not-good_map-2 : goal.returns-then-not-good_map-2
+unfolding good_maps both
+returns-then-not-good_map-2 c =
+    let boarding = rw (c.rule_boarding.ensures, c.stations.ensures, c.rule_companies-companies.ensures) at (sym c.good_map.ensures ∙ c.if-not-good_map.false) in
+    let alighting = rw (c.rule_alighting.ensures, c.stations-2.ensures, c.rule_companies-companies.ensures, c.wide-last.ensures.0, c.rule_rides.ensures) at (sym c.good_map-2.ensures ∙ c.if-not-good_map-2.true) in
+    rw (boarding, alighting)
+
+pub good_map-requires-3 : goal.good_map-requires-3
+good_map-requires-3 c = rw c.rule_permitted.ensures (omega (arith, (rule_sized _ c.requires.0 _ c.requires.1).permitted))
+
+pub returns : goal.returns
+unfolding good_maps both
+returns c =
+    let boarding = rw (c.rule_boarding.ensures, c.stations.ensures, c.rule_companies-companies.ensures) at (sym c.good_map.ensures ∙ c.if-not-good_map.false) in
+    let alighting = rw (c.rule_alighting.ensures, c.stations-2.ensures, c.rule_companies-companies.ensures, c.wide-last.ensures.0, c.rule_rides.ensures) at (sym c.good_map-2.ensures ∙ c.if-not-good_map-2.false) in
+    rw (boarding, alighting) (rw (c.rule_permitted.ensures, c.links.ensures) at c.good_map-3.ensures)

@@ -1,0 +1,5 @@
+-- `search::to_link` meets its contract.
+use Rattle.search.proofs.to_link.Goals as goal
+
+pub returns : goal.returns
+returns c = rw (← c.link.ensures, ← c.near_end.ensures) c.ride.ensures

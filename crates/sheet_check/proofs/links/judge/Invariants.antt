@@ -1,0 +1,14 @@
+-- `sheet_check::links::judge` meets its contract.
+use mathlib.Core.Path.{◌≡◌}
+use Prim.Native.Nat.{◌-◌, ◌≤◌}
+use Rattle.outline.specs.declared.Judged.TheVariants.{Good}
+use Rattle.outline.specs.Refusals.{first_below}
+use Rattle.outline.specs.Sheet.{links_in, network_in}
+use Rattle.outline.specs.Judging.{link_check}
+use Rattle.sheet_check.proofs.links.judge.Given as goal
+
+abbrev pub invariant-loop-k : goal.invariant-loop-k
+invariant-loop-k l = (l.n ≡ links_in l.sheet) × (l.k ≤ l.n) × (first_below (link_check (network_in l.sheet)) l.k ≡ Good)
+
+abbrev pub decreases-loop-k : goal.decreases-loop-k
+decreases-loop-k l = l.n - l.k

@@ -1,0 +1,16 @@
+-- `sheet_layout::fare_index` meets its contract.
+use native.Mathlib.Omega.{arith}
+use Rattle.laws.proofs.Reading.{small_product}
+use Rattle.sheet_layout.proofs.fare_index.Goals as goal
+
+pub overflow_mul-result : goal.overflow_mul-result
+overflow_mul-result c = omega (arith, small_product 65535 {m = c.wide.result} {n = c.wide-2.result} (omega arith) (omega arith))
+
+pub overflow_add-result : goal.overflow_add-result
+overflow_add-result c = omega (arith, small_product 65535 {m = c.wide.result} {n = c.wide-2.result} (omega arith) (omega arith))
+
+pub overflow_add-result-2 : goal.overflow_add-result-2
+overflow_add-result-2 c = omega (arith, small_product 65535 {m = c.wide.result} {n = c.wide-2.result} (omega arith) (omega arith))
+
+pub returns : goal.returns
+returns c = (cc, omega (arith, small_product 65535 {m = c.wide.result} {n = c.wide-2.result} (omega arith) (omega arith)))

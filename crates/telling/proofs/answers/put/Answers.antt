@@ -1,0 +1,23 @@
+-- `telling::answers::put` meets its contract.
+use mathlib.Core.Path.{sym, ap, ◌∙◌}
+use native.Mathlib.Omega.{arith}
+use Rattle.telling.specs.Answers.{answer_numbers}
+use Rattle.outline.specs.declared.Written.TheVariants.{Wrote}
+use Rattle.filling.proofs.Answers.{answers_refused, answers_no_room, answers_wrote}
+use Rattle.telling.proofs.Putting.{numbers_length}
+use Rattle.telling.proofs.answers.put.Goals as goal
+
+pub returns-in-Refused : goal.returns-in-Refused
+returns-in-Refused c = let w = answers_refused _ _ (answer_numbers c.args.a) c.args.answer.now c.in-Refused.is in record { value = w.0; answer_after = w.1 }
+
+pub returns-then-answer-lt-NUMBERS : goal.returns-then-answer-lt-NUMBERS
+returns-then-answer-lt-NUMBERS c =
+    let w = answers_no_room _ (answer_numbers c.args.a) c.args.answer.now c.in_default.is (omega (arith, numbers_length c.args.a c.requires)) in
+    record { value = w.0; answer_after = w.1 }
+
+pub returns : goal.returns
+returns c =
+    let a = c.args.a in
+    let long = numbers_length a c.requires in
+    let w = answers_wrote a.judged (answer_numbers a) c.args.answer.now c.in_default.is (omega arith) in
+    (record { value = ap Wrote (sym long) ∙ w.0; answer_after = c.put_numbers.ensures ∙ w.1 })
