@@ -1,6 +1,6 @@
 /* Loads a book from a file and asks for the cheapest route between two stations.
  *
- *     rt staticlib gate
+ *     host/build
  *     cc -I include examples/ask.c target/staticlib/libgate.a -o /tmp/ask
  *     xxd -r -p examples/q.hex /tmp/q.book
  *     /tmp/ask /tmp/q.book 0 0 2 0 4

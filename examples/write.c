@@ -1,7 +1,7 @@
 /* Makes a book from a sheet: reads the sheet's numbers on standard input, in decimal with white space between them, and writes
  * the book to standard output.
  *
- *     rt staticlib gate
+ *     host/build
  *     cc -I include examples/write.c target/staticlib/libgate.a -o /tmp/write
  *     /tmp/write < examples/two_companies.sheet > /tmp/two_companies.book
  */

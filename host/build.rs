@@ -1,4 +1,4 @@
-//! Links the proved library, which `rt staticlib gate` writes to target/staticlib/ at the repository's root.
+//! Links the proved library, which `host/build` writes to target/staticlib/ at the repository's root.
 
 use std::path::Path;
 
@@ -7,7 +7,7 @@ fn main() {
     let library = folder.join("libgate.a");
     println!("cargo:rerun-if-changed={}", library.display());
     if !library.exists() {
-        panic!("{} is missing: run `rt staticlib gate` at the repository's root", library.display());
+        panic!("{} is missing: run `host/build`", library.display());
     }
     println!("cargo:rustc-link-search=native={}", folder.display());
     println!("cargo:rustc-link-lib=static=gate");

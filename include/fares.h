@@ -1,6 +1,6 @@
 /* Fare books of several railway companies: judged, read, written, priced and asked (document 01).
  *
- * Build the library with `rt staticlib gate`, which proves it first, and link target/staticlib/libgate.a. It needs no other
+ * Build the library with `host/build`, which proves it first, and link target/staticlib/libgate.a. It needs no other
  * library: `cc -I include examples/ask.c target/staticlib/libgate.a -o ask`.
  *
  * A function never fails on what a list holds: it takes any bytes or numbers, and what is wrong with them is its answer.

@@ -17,7 +17,7 @@ pub fn root() -> PathBuf {
 pub fn start(input: &[u8]) -> Child {
     let program = root().join("target/bin/pairs");
     if !program.exists() {
-        panic!("{} is missing: run `rt check pairs` at the repository's root", program.display());
+        panic!("{} is missing: run `host/build`", program.display());
     }
     let started = Command::new(program).stdin(Stdio::piped()).stdout(Stdio::piped()).spawn();
     let mut child = started.expect("the lister starts");
