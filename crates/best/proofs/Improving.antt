@@ -1,7 +1,6 @@
 -- Laws of `Improves`: what is held after one part of a search and then another, after an offer, and round a loop.
 use Prim.Native.Nat.{ℕ, ◌+◌, ◌≤◌, ◌<◌}
-use mathlib.Core.Path.{◌≡◌, refl, sym, subst, ◌∙◌}
-use mathlib.Core.Bool.{true}
+use mathlib.Core.Path.{◌≡◌, sym, subst, ◌∙◌}
 use mathlib.Core.Logic.{◌⊎◌, inl, inr, ⊎_elim}
 use mathlib.Core.List.{List}
 use native.Mathlib.Omega.{arith}
@@ -12,11 +11,13 @@ use Rattle.outline.specs.Questions.{NoLater}
 use Rattle.routes.specs.Held.{rides_of, Held}
 use Rattle.routes.specs.declared.Route.{Route}
 use Rattle.laws.specs.Rides.{AllGood}
-use Rattle.cheapest.specs.Onward.{Some}
+use Rattle.cheapest.specs.Onward.{SomeBelow}
 use native.Mathlib.Nat.{eq-or-lt_of_le}
 use Rattle.cheapest.proofs.Earlier.{earlier_same, earlier_then}
+use Rattle.std.specs.Prelude.{Option, Some, None, IfSome, IsSomeAnd}
+use Rattle.best.specs.declared.Fared.{Fared}
 use Rattle.best.specs.declared.Best.{Best}
-use Rattle.best.specs.Kept.{Sound, Improves, NoLonger}
+use Rattle.best.specs.Kept.{Priced, Sound, Improves, NoLonger}
 
 -- nothing has P
 pub improves_none : (N : Network) (b : Best) (P : List Leg → Type 0) → Sound N b → ((R : List Leg) → P R → ⊥) → Improves N b b P
@@ -48,24 +49,32 @@ improves_same N S i p s = record {
 
 -- ---- an offer
 
+-- what is held, where something is
+pub held_here : (N : Network) (b : Best) (p : Fared) → b.found ≡ Some p → Sound N b → Priced N p
+held_here N b p f s = rw f at s
+
 -- a route is offered, and what is held stays: it comes no later
-pub held_stays : (N : Network) (b : Best) (r : Route) → Sound N b → b.found ≡ true → NoLater N (rides_of b.route) (rides_of r) → Improves N b b (λ R. rides_of r ≡ R)
-held_stays N b r s f l = record {
+pub held_stays : (N : Network) (b : Best) (p : Fared) (r : Route) → Sound N b → b.found ≡ Some p → NoLater N (rides_of p.route) (rides_of r) → Improves N b b (λ R. rides_of r ≡ R)
+held_stays N b p r s f l = record {
   sound = s;
   origin = λ R h. inl h;
   keeps = λ R k. k;
-  beats = λ R e. record { found = f; earlier = subst (NoLater N (rides_of b.route)) e l };
+  beats = λ R e. rw f (subst (NoLater N (rides_of p.route)) e l);
 }
 
 -- a route is offered, and comes no later than what is held
 pub offer_taken : (N : Network) (b : Best) (f : ℕ) (r : Route) → Held N r → AllGood N (rides_of r) → f ≡ fare_of N (rides_of r)
-    → (b.found ≡ true → NoLater N (rides_of r) (rides_of b.route)) → Improves N b (record { found = true; fare = f; route = r }) (λ R. rides_of r ≡ R)
+    → IfSome b.found (λ p. NoLater N (rides_of r) (rides_of p.route)) → Improves N b (record { found = Some (record { fare = f; route = r }) }) (λ R. rides_of r ≡ R)
 offer_taken N b f r h g e l = record {
-  sound = λ _. record { held = h; good = g; fare = e };
-  origin = λ R h. inr h.is;
-  keeps = λ R k. record { found = refl; earlier = earlier_then N (rides_of r) (rides_of b.route) R (l k.found) k.earlier };
-  beats = λ R e. record { found = refl; earlier = subst (NoLater N (rides_of r)) e (earlier_same N (rides_of r)) };
+  sound = record { held = h; good = g; fare = e };
+  origin = λ R h. inr h;
+  keeps = λ R k. earlier b.found R l k;
+  beats = λ R e. subst (NoLater N (rides_of r)) e (earlier_same N (rides_of r));
 }
+  where
+    earlier : (o : Option Fared) (R : List Leg) → IfSome o (λ p. NoLater N (rides_of r) (rides_of p.route)) → IsSomeAnd o (λ p. NoLater N (rides_of p.route) R) → NoLater N (rides_of r) R
+    earlier None R l k = absurd k
+    earlier (Some p) R l k = earlier_then N (rides_of r) (rides_of p.route) R l k
 
 pub by_fare : (N : Network) (s t : List Leg) (f g : ℕ) → f ≡ fare_of N s → g ≡ fare_of N t → f < g → NoLater N s t
 by_fare N s t f g e h l = inl (omega arith)
@@ -75,24 +84,24 @@ by_rides N s t f g e h same l = inr (sym e ∙ same ∙ h, l)
 
 -- ---- a loop whose turn n goes through those of Q n
 
-pub loop_none : (N : Network) (b : Best) (Q : ℕ → List Leg → Type 0) → Sound N b → Improves N b b (λ R. Some 0 (λ i. Q i R))
-loop_none N b Q s = improves_none N b (λ R. Some 0 (λ i. Q i R)) s (λ R h. omega (arith, h.below))
+pub loop_none : (N : Network) (b : Best) (Q : ℕ → List Leg → Type 0) → Sound N b → Improves N b b (λ R. SomeBelow 0 (λ i. Q i R))
+loop_none N b Q s = improves_none N b (λ R. SomeBelow 0 (λ i. Q i R)) s (λ R h. omega (arith, h.below))
 
-some_up : (n : ℕ) (Q : ℕ → Type 0) → Some n Q → Some (n + 1) Q
+some_up : (n : ℕ) (Q : ℕ → Type 0) → SomeBelow n Q → SomeBelow (n + 1) Q
 some_up n Q s = record { at = s.at; below = omega (arith, s.below); holds = s.holds }
 
-some_here : (n : ℕ) (Q : ℕ → Type 0) → Q n → Some (n + 1) Q
+some_here : (n : ℕ) (Q : ℕ → Type 0) → Q n → SomeBelow (n + 1) Q
 some_here n Q q = record { at = n; below = omega arith; holds = q }
 
-some_down : (n : ℕ) (Q : ℕ → Type 0) → Some (n + 1) Q → Some n Q ⊎ Q n
+some_down : (n : ℕ) (Q : ℕ → Type 0) → SomeBelow (n + 1) Q → SomeBelow n Q ⊎ Q n
 some_down n Q s =
     let le : s.at ≤ n = omega (arith, s.below) in
     ⊎_elim (λ e. inr (subst Q e s.holds)) (λ l. inl (record { at = s.at; below = l; holds = s.holds })) (eq-or-lt_of_le le)
 
-pub loop_turn : (N : Network) {b c d : Best} (Q : ℕ → List Leg → Type 0) (n : ℕ) → Improves N b c (λ R. Some n (λ i. Q i R)) → Improves N c d (Q n)
-    → Improves N b d (λ R. Some (n + 1) (λ i. Q i R))
-loop_turn N Q n i j = improves_then N (λ R. Some (n + 1) (λ i. Q i R)) i j (λ R x. some_up n (λ i. Q i R) x) (λ R x. some_here n (λ i. Q i R) x) (λ R x. some_down n (λ i. Q i R) x)
+pub loop_turn : (N : Network) {b c d : Best} (Q : ℕ → List Leg → Type 0) (n : ℕ) → Improves N b c (λ R. SomeBelow n (λ i. Q i R)) → Improves N c d (Q n)
+    → Improves N b d (λ R. SomeBelow (n + 1) (λ i. Q i R))
+loop_turn N Q n i j = improves_then N (λ R. SomeBelow (n + 1) (λ i. Q i R)) i j (λ R x. some_up n (λ i. Q i R) x) (λ R x. some_here n (λ i. Q i R) x) (λ R x. some_down n (λ i. Q i R) x)
 
 -- a dearer route is offered
-pub stays_cheaper : (N : Network) (b : Best) (r : Route) (f : ℕ) → Sound N b → b.found ≡ true → f ≡ fare_of N (rides_of r) → b.fare < f → Improves N b b (λ R. rides_of r ≡ R)
-stays_cheaper N b r f s h e l = held_stays N b r s h (by_fare N _ _ _ _ (s h).fare e l)
+pub stays_cheaper : (N : Network) (b : Best) (p : Fared) (r : Route) (f : ℕ) → Sound N b → b.found ≡ Some p → f ≡ fare_of N (rides_of r) → p.fare < f → Improves N b b (λ R. rides_of r ≡ R)
+stays_cheaper N b p r f s h e l = held_stays N b p r s h (by_fare N _ _ _ _ (held_here N b p h s).fare e l)

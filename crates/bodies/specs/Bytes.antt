@@ -1,7 +1,7 @@
 -- Which links and rules of a sheet have a byte wherever the book has one.
 use Rattle.std.specs.Prelude.{ℕ, ◌<◌, List, ◌∷◌, ◌++◌, length, get_or}
 use Rattle.outline.specs.declared.Link.{Link}
-use Rattle.outline.specs.Fares.{Rule}
+use Rattle.outline.specs.declared.Rule.{Rule}
 
 pub record LinkBytes (l : Link) : Type 0 where
   pub company : l.one.company < 256

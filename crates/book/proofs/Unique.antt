@@ -1,8 +1,8 @@
 -- Each public contract of this crate allows one answer. `Post` is the contract as it stands beside the code: of the arguments, the answer
 -- and the lent memory at the end.
 use mathlib.Core.Path.{◌≡◌, sym, ◌∙◌}
+use Rattle.outline.specs.Refusals.{Judged}
 use Prim.Native.Nat.{ℕ}
-use Rattle.outline.specs.declared.Judged.{Judged}
 use Rattle.book.proofs.judge.Reads as judge
 use Rattle.book.proofs.company_body.Reads as company_body
 use Rattle.book.proofs.refusal.number.Reads as number

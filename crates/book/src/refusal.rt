@@ -1,4 +1,4 @@
-// A refusal's number and place.
+// A refusal's number and place: the outline's table, which no derive gives.
 ghost use Rattle.std.specs.Prelude.{◌≡◌};
 ghost use Rattle.outline.specs.Refusals.{number_of, place_of};
 

@@ -1,10 +1,8 @@
 -- The table of proved cases: the lines of document 01 marked P, and what the table says of a case.
-use Rattle.std.specs.Prelude.{ℕ, ◌≡◌, List, [], ◌∷◌, take}
+use Rattle.std.specs.Prelude.{ℕ, ◌≡◌, List, [], ◌∷◌, take, Ok, Err}
 use Rattle.outline.specs.declared.Ride.{Ride}
 use Rattle.outline.specs.declared.Answer.{Answer}
-use Rattle.outline.specs.declared.Judged.{Judged}
-use Rattle.outline.specs.declared.Judged.TheVariants.{Good, Refused}
-use Rattle.outline.specs.Refusals.{number_of}
+use Rattle.outline.specs.Refusals.{number_of, Judged}
 use Rattle.outline.specs.Price.{price_of}
 use Rattle.outline.specs.Listing.{asked_of}
 use Rattle.cases.specs.Books.{four_rides, two_rides, book_q, two_ways}
@@ -35,8 +33,8 @@ bytes_in [] = []
 bytes_in (r ∷ places) = r.company ∷ r.boarding ∷ r.alighting ∷ bytes_in places
 
 unfoldable pub outcome_of : Judged → Answer → Outcome
-outcome_of Good r = costs r.fare (bytes_in (take r.rides r.places))
-outcome_of (Refused x) r = refused (number_of x)
+outcome_of (Ok _) r = costs r.fare (bytes_in (take r.rides r.places))
+outcome_of (Err x) r = refused (number_of x)
 
 abbrev pub Holds : Case → Type 0
 Holds c = outcome_of (answered c.book c.asked).judged (answered c.book c.asked) ≡ c.outcome

@@ -1,5 +1,6 @@
 -- Which question is good, and which refusal the first one named is; what an answer to a question says.
 use Prim.Native.Nat.{ℕ}
+use Rattle.std.proofs.Common.{Ok, Err}
 use mathlib.Core.Path.{◌≡◌, refl, sym, ap, subst, ◌∙◌}
 use mathlib.Core.Bool.{true, not}
 use mathlib.Core.List.{List}
@@ -12,11 +13,9 @@ use Rattle.outline.specs.declared.Question.{Question}
 use Rattle.outline.specs.declared.Answer.{Answer}
 use Rattle.outline.specs.declared.Refusal.{Refusal}
 use Rattle.outline.specs.declared.Refusal.TheVariants.{UnknownStation, SameStation, BadLimit, NoRoute}
-use Rattle.outline.specs.declared.Judged.{Judged}
-use Rattle.outline.specs.declared.Judged.TheVariants.{Good, Refused}
 use Rattle.outline.specs.Numbers.{most_rides}
 use Rattle.outline.specs.Tests.{within, Within}
-use Rattle.outline.specs.Refusals.{number_of, place_of}
+use Rattle.outline.specs.Refusals.{number_of, place_of, Judged}
 use Rattle.outline.specs.Network.{Network, same_station}
 use Rattle.outline.specs.Book.{network}
 use Rattle.outline.specs.Judging.{book_check}
@@ -47,11 +46,11 @@ limit_is : (n : ℕ) → (within 1 n most_rides ≡ true) ↔ Within 1 n most_ri
 limit_is n = (within_true 1 n most_rides, within_holds 1 n most_rides)
 
 module _ (N : Network) (q : Question) where
-  pub question_good : (question_check N q ≡ Good) ↔ GoodQuestion N q
+  pub question_good : (question_check N q ≡ Ok tt) ↔ GoodQuestion N q
   unfolding question_check
   question_good = (tells, holds)
     where
-      tells : question_check N q ≡ Good → GoodQuestion N q
+      tells : question_check N q ≡ Ok tt → GoodQuestion N q
       tells e =
           let a = demand_good _ _ _ e in
           let b = demand_good _ _ _ a.1 in
@@ -59,7 +58,7 @@ module _ (N : Network) (q : Question) where
           let d = demand_good _ _ _ c.1 in
           record { from = (known_is N q.from).0 a.0; to = (known_is N q.to).0 b.0; different = (different_is q.from q.to).0 c.0; limit = (limit_is q.limit).0 d.0 }
 
-      holds : GoodQuestion N q → question_check N q ≡ Good
+      holds : GoodQuestion N q → question_check N q ≡ Ok tt
       holds g =
           demand_holds _ _ _ ((known_is N q.from).1 g.from)
           ∙ demand_holds _ _ _ ((known_is N q.to).1 g.to)
@@ -67,7 +66,7 @@ module _ (N : Network) (q : Question) where
           ∙ demand_holds _ _ _ ((limit_is q.limit).1 g.limit)
 
   -- 9, "from before to"
-  pub unknown_from : (question_check N q ≡ Refused (UnknownStation 0)) ↔ (Known N q.from → ⊥)
+  pub unknown_from : (question_check N q ≡ Err (UnknownStation 0)) ↔ (Known N q.from → ⊥)
   unfolding question_check
   unknown_from =
       demand_stays _ _ _
@@ -77,7 +76,7 @@ module _ (N : Network) (q : Question) where
       (UnknownStation 0) r refl)
       (known_is N q.from)
 
-  pub unknown_to : (question_check N q ≡ Refused (UnknownStation 1)) ↔ (Known N q.from × (Known N q.to → ⊥))
+  pub unknown_to : (question_check N q ≡ Err (UnknownStation 1)) ↔ (Known N q.from × (Known N q.to → ⊥))
   unfolding question_check
   unknown_to =
       let first = demand_passes _ (UnknownStation 0) _ (UnknownStation 1) (λ e. let z = ap place_of e in omega arith) (known_is N q.from) in
@@ -89,7 +88,7 @@ module _ (N : Network) (q : Question) where
       (λ e. let a = first.0 e in (a.0, second.0 a.1), λ h. first.1 (h.0, second.1 h.1))
 
   -- 10
-  pub same_stations : (question_check N q ≡ Refused SameStation) ↔ (Known N q.from × Known N q.to × ((q.from ≡ q.to → ⊥) → ⊥))
+  pub same_stations : (question_check N q ≡ Err SameStation) ↔ (Known N q.from × Known N q.to × ((q.from ≡ q.to → ⊥) → ⊥))
   unfolding question_check
   same_stations =
       let first = demand_passes _ (UnknownStation 0) _ SameStation (λ e. let z = ap number_of e in omega arith) (known_is N q.from) in
@@ -100,7 +99,7 @@ module _ (N : Network) (q : Question) where
       (λ e. let a = first.0 e in let b = second.0 a.1 in (a.0, b.0, third.0 b.1), λ h. first.1 (h.0, second.1 (h.1, third.1 h.2)))
 
   -- 11
-  pub bad_limit : (question_check N q ≡ Refused BadLimit) ↔ (Known N q.from × Known N q.to × (q.from ≡ q.to → ⊥) × (Within 1 q.limit most_rides → ⊥))
+  pub bad_limit : (question_check N q ≡ Err BadLimit) ↔ (Known N q.from × Known N q.to × (q.from ≡ q.to → ⊥) × (Within 1 q.limit most_rides → ⊥))
   unfolding question_check
   bad_limit =
       let first = demand_passes _ (UnknownStation 0) _ BadLimit (λ e. let z = ap number_of e in omega arith) (known_is N q.from) in
@@ -114,11 +113,11 @@ module _ (N : Network) (q : Question) where
 -- ---- what the answer says
 
 -- the book's refusal comes first, then the question's
-pub refused_book : (b : List ℕ) (q : Question) (r : Answer) (x : Refusal) → Asked b q r → book_check b ≡ Refused x → r ≡ refused_answer x
+pub refused_book : (b : List ℕ) (q : Question) (r : Answer) (x : Refusal) → Asked b q r → book_check b ≡ Err x → r ≡ refused_answer x
 unfolding Asked AnswerTo
 refused_book b q r x a e = subst (λ (j : Judged). AnswerTo j (network b) q r) (then_refused _ _ x e) a
 
-pub refused_question : (b : List ℕ) (q : Question) (r : Answer) (x : Refusal) → Asked b q r → ValidBook b → question_check (network b) q ≡ Refused x → r ≡ refused_answer x
+pub refused_question : (b : List ℕ) (q : Question) (r : Answer) (x : Refusal) → Asked b q r → ValidBook b → question_check (network b) q ≡ Err x → r ≡ refused_answer x
 unfolding Asked AnswerTo
 refused_question b q r x a v e = subst (λ (j : Judged). AnswerTo j (network b) q r) (then_next _ _ ((book_good b).1 v) ∙ e) a
 
@@ -127,7 +126,7 @@ unfolding Asked AnswerTo
 answered b q r a v g = subst (λ (j : Judged). AnswerTo j (network b) q r) (then_next _ _ ((book_good b).1 v) ∙ (question_good (network b) q).1 g) a
 
 -- 12 exactly where no route exists
-pub no_route : (N : Network) (q : Question) (r : Answer) → Answered N q r → (r.judged ≡ Refused NoRoute) ↔ ((t : List Leg) → Joins N q t → ⊥)
+pub no_route : (N : Network) (q : Question) (r : Answer) → Answered N q r → (r.judged ≡ Err NoRoute) ↔ ((t : List Leg) → Joins N q t → ⊥)
 unfolding answer_of answer_with refused_answer
 no_route N q r (inl f) = (λ e. absurd (refused_not_good (sym e ∙ ap (λ (a : Answer). a.judged) f.is)), λ n. absurd (n f.route f.cheapest.joins))
 no_route N q r (inr n) = (λ e. n.none, λ h. ap (λ (a : Answer). a.judged) n.is)

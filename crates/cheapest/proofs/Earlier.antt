@@ -1,6 +1,7 @@
 -- The order of routes: reflexive, transitive, total, and no two routes are each no later than the other. So the cheapest route is one, and
 -- a question has one answer.
 use Prim.Native.Nat.{ℕ}
+use Rattle.std.proofs.Common.{Ok, Err}
 use mathlib.Core.Path.{◌≡◌, refl, sym, ap, ◌∙◌}
 use mathlib.Core.Logic.{◌⊎◌, inl, inr}
 use mathlib.Core.List.{List, [], ◌∷◌}
@@ -9,9 +10,7 @@ use lib.ListN.{length}
 use Rattle.outline.specs.declared.Leg.{Leg}
 use Rattle.outline.specs.declared.Question.{Question}
 use Rattle.outline.specs.declared.Answer.{Answer}
-use Rattle.outline.specs.declared.Judged.{Judged}
-use Rattle.outline.specs.declared.Judged.TheVariants.{Good, Refused}
-use Rattle.outline.specs.Refusals.{◌and_then◌}
+use Rattle.outline.specs.Refusals.{◌and_then◌, Judged}
 use Rattle.outline.specs.Lexical.{LexLe}
 use Rattle.outline.specs.Network.{Network}
 use Rattle.outline.specs.Book.{network}
@@ -68,5 +67,5 @@ unfolding Asked AnswerTo
 one_answer b q r p = go (book_check b and_then question_check (network b) q)
   where
     go : (a : Judged) → AnswerTo a (network b) q r → AnswerTo a (network b) q p → r ≡ p
-    go Good h k = one_found (network b) q r p h k
-    go (Refused x) h k = h ∙ sym k
+    go (Ok _) h k = one_found (network b) q r p h k
+    go (Err x) h k = h ∙ sym k

@@ -1,5 +1,6 @@
 -- The listed routes are the admissible ones, and the answer computed from them is the answer to the question.
 use Prim.Native.Nat.{ℕ, zero, suc, ◌≤◌, ◌<◌}
+use Rattle.std.proofs.Common.{Ok, Err}
 use mathlib.Core.Path.{◌≡◌, refl, sym, subst, ◌∙◌}
 use mathlib.Core.Bool.{Bool, true, false}
 use mathlib.Core.Logic.{◌⊎◌, inl, inr, ⊎_elim, ◌↔◌}
@@ -13,10 +14,8 @@ use borrow.Author.Tests.{ltb-true, lt-ltb, eqb-true, eq-eqb}
 use Rattle.outline.specs.declared.Leg.{Leg}
 use Rattle.outline.specs.declared.Question.{Question}
 use Rattle.outline.specs.declared.Answer.{Answer}
-use Rattle.outline.specs.declared.Judged.{Judged}
-use Rattle.outline.specs.declared.Judged.TheVariants.{Good, Refused}
 use Rattle.outline.specs.Tests.{both, either, choose, Within, list_of, in_order}
-use Rattle.outline.specs.Refusals.{◌and_then◌}
+use Rattle.outline.specs.Refusals.{◌and_then◌, Judged}
 use Rattle.outline.specs.Lexical.{LexLe}
 use Rattle.outline.specs.Network.{Network}
 use Rattle.outline.specs.Book.{network}
@@ -190,7 +189,7 @@ pub found_is : (N : Network) (q : Question) → q.limit ≤ most_rides → Answe
 unfolding found_of
 found_is N q most = among_is N q (those (joins_them q) (routes_within N q.limit)) (λ t. (candidate N q t, candidate_joins N q t most))
 
-pub limit_within : (N : Network) (q : Question) → question_check N q ≡ Good → Within 1 q.limit most_rides
+pub limit_within : (N : Network) (q : Question) → question_check N q ≡ Ok tt → Within 1 q.limit most_rides
 unfolding question_check
 limit_within N q e =
     let (_, a) = demand_good _ _ _ e in
@@ -203,8 +202,8 @@ unfolding Asked AnswerTo asked_of answer_to
 asked_computed b q = go (book_check b and_then question_check (network b) q) refl
   where
     go : (a : Judged) → book_check b and_then question_check (network b) q ≡ a → AnswerTo a (network b) q (answer_to a (found_of (network b) q))
-    go Good e = found_is (network b) q (limit_within (network b) q (then_good _ _ e).1).to
-    go (Refused x) e = refl
+    go (Ok _) e = found_is (network b) q (limit_within (network b) q (then_good _ _ e).1).to
+    go (Err x) e = refl
 
 -- what the definition allows is what is computed
 pub asked_is : (b : List ℕ) (q : Question) (r : Answer) → Asked b q r ↔ (r ≡ asked_of b q)

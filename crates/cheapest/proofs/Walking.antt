@@ -26,7 +26,7 @@ use Rattle.laws.proofs.Admissible.{admissible_good}
 use Rattle.outline.specs.Numbers.{most_rides}
 use Rattle.outline.specs.declared.Question.{Question}
 use Rattle.laws.specs.Rides.{AllGood}
-use Rattle.cheapest.specs.Onward.{From, Direct, Over, Some, ride_to, near_end, far_end}
+use Rattle.cheapest.specs.Onward.{From, Direct, Over, SomeBelow, ride_to, near_end, far_end}
 use Rattle.cheapest.proofs.Onward.{good_more, one_more}
 
 -- ---- one more ride at the end
@@ -132,7 +132,7 @@ module _ (N : Network) (goal : Station) (p : List Leg) (x : Station) (route : Li
           is = subst (λ (l : Leg). p ++ (l ∷ []) ≡ route) ride whole;
         }
 
-    goes_on : GoodLinks N → length p + 1 < length route → Some N.links (λ k. Over N goal (left - 1) p x k route)
+    goes_on : GoodLinks N → length p + 1 < length route → SomeBelow N.links (λ k. Over N goal (left - 1) p x k route)
     goes_on links more =
         let long : length (p ++ (next ∷ [])) ≡ suc (length p) = omega (arith, longer p next) in
         let m : suc (length p) < length route = omega arith in
@@ -163,7 +163,7 @@ module _ (N : Network) (goal : Station) (p : List Leg) (x : Station) (route : Li
           };
         }
 
-  pub from_splits : (left : ℕ) → GoodLinks N → From N goal left p x route → Direct N goal p x route ⊎ Some N.links (λ k. Over N goal (left - 1) p x k route)
+  pub from_splits : (left : ℕ) → GoodLinks N → From N goal left p x route → Direct N goal p x route ⊎ SomeBelow N.links (λ k. Over N goal (left - 1) p x k route)
   from_splits left links f = ⊎_elim (λ e. inl (ends_here left f (sym e))) (λ l. inr (goes_on left f links l)) (eq-or-lt_of_le (let m = f.more in omega arith))
 
 -- ---- the routes that a question asks for

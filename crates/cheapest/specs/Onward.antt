@@ -42,7 +42,7 @@ pub record Over (N : Network) (goal : Station) (left : ℕ) (p : List Leg) (x : 
   pub onward : From N goal left (p ++ (ride_to x (near_end (N.link k) x.company) ∷ [])) (far_end (N.link k) x.company) route
 
 -- some number below n has Q
-pub record Some (n : ℕ) (Q : ℕ → Type 0) : Type 0 where
+pub record SomeBelow (n : ℕ) (Q : ℕ → Type 0) : Type 0 where
   pub at : ℕ
   pub below : at < n
   pub holds : Q at

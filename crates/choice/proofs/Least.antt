@@ -11,8 +11,7 @@ use lib.Dec.{ltb, leb}
 use borrow.Author.Tests.{ltb-true, ltb-false, leb-true, leb-false}
 use Rattle.outline.specs.declared.Run.{Run}
 use Rattle.outline.specs.declared.Payer.{Payer}
-use Rattle.outline.specs.declared.Payer.TheVariants.{Nobody, Pays}
-use Rattle.outline.specs.declared.Saving.TheVariants.{Yen}
+use Rattle.std.specs.Prelude.{Option, Some, None}
 use Rattle.outline.specs.Tests.{choose}
 use Rattle.outline.specs.Lexical.{LexLe}
 use Rattle.outline.specs.Selections.{Earn, yen, Apart, total, numbers, Counts, Best}
@@ -142,7 +141,7 @@ module _ (earn : Earn) (rules n : ℕ) where
         e : Earned (earn p.first p.rides p.rule)
         e = earned _ a.0.pays
 
-        as_mine : earn p.first p.rides p.rule ≡ Yen e.yen → earn at m p.rule ≡ Yen e.yen
+        as_mine : earn p.first p.rides p.rule ≡ Some e.yen → earn at m p.rule ≡ Some e.yen
         as_mine h = ap (λ (i : ℕ). earn i m p.rule) l.0 ∙ ap (λ (i : ℕ). earn p.first i p.rule) l.1 ∙ h
 
         mine : yen (earn at m k) ≡ y
@@ -199,21 +198,21 @@ module _ (earn : Earn) (rules n : ℕ) where
         }))
         h.one
 
-    no_front : ((j x : ℕ) → j < rules → earn at m j ≡ Yen x → ⊥) → (t : List Run) → Apart earn rules n at t → Starts at m t → ⊥
+    no_front : ((j x : ℕ) → j < rules → earn at m j ≡ Some x → ⊥) → (t : List Run) → Apart earn rules n at t → Starts at m t → ⊥
     unfolding Apart Starts
     no_front h [] a l = l
     no_front h (p ∷ t) a l =
         let e = earned _ a.0.pays in
         h p.rule e.yen a.0.known (ap (λ (i : ℕ). earn i m p.rule) l.0 ∙ ap (λ (i : ℕ). earn p.first i p.rule) l.1 ∙ e.is)
 
-    with_run_lem : (b : Payer) → Right (earn at m) rules b → Least at m (with_run earn at m rest held b)
+    with_run_lem : (b : Option Payer) → Right (earn at m) rules b → Least at m (with_run earn at m rest held b)
     unfolding with_run run_by
-    with_run_lem Nobody h = record {
+    with_run_lem None h = record {
       apart = so_far.apart;
       after = after_less at m held so_far.after;
       first = λ t a k. ⊎_elim (λ l. so_far.first t a l) (λ l. absurd (no_front h t a l)) (after_split at m t k);
     }
-    with_run_lem (Pays k y) h = taken k y h _ (rather_takes earn (run_by k) held (ahead k held so_far.after))
+    with_run_lem (Some p) h = taken p.rule p.yen h _ (rather_takes earn (run_by p.rule) held (ahead p.rule held so_far.after))
 
     least_or : Least at m (or_run earn rules at m rest held)
     unfolding or_run

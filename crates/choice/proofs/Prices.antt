@@ -1,5 +1,6 @@
 -- What the contract of `price` says in document 01's words, that it allows one answer, and that a fare is at least 1.
 use Prim.Native.Nat.{ℕ, ◌*◌}
+use Rattle.std.proofs.Common.{Ok, Err}
 use mathlib.Core.Path.{◌≡◌, refl, sym, ap, ◌∙◌}
 use mathlib.Core.List.{List}
 use mathlib.Core.Logic.{⊎_elim, ◌↔◌}
@@ -8,11 +9,9 @@ use Rattle.outline.specs.declared.Leg.{Leg}
 use Rattle.outline.specs.declared.Answer.{Answer}
 use Rattle.outline.specs.declared.Refusal.{Refusal}
 use Rattle.outline.specs.declared.Refusal.TheVariants.{BadRide}
-use Rattle.outline.specs.declared.Judged.{Judged}
-use Rattle.outline.specs.declared.Judged.TheVariants.{Good, Refused}
 use Rattle.outline.specs.Numbers.{most_fare, most_rides}
 use Rattle.outline.specs.Tests.{Within}
-use Rattle.outline.specs.Refusals.{◌and_then◌}
+use Rattle.outline.specs.Refusals.{◌and_then◌, Judged}
 use Rattle.outline.specs.Book.{network}
 use Rattle.outline.specs.Valid.{ValidBook}
 use Rattle.outline.specs.Judging.{book_check}
@@ -27,20 +26,20 @@ use Rattle.choice.proofs.Priced.{runs_best, priced_is, frugal}
 
 -- r is the answer to a book and the bytes of a route
 pub record Answered (b bytes : List ℕ) (r : Answer) : Type 0 where
-  pub book : (x : Refusal) → book_check b ≡ Refused x → r ≡ refused_answer x
+  pub book : (x : Refusal) → book_check b ≡ Err x → r ≡ refused_answer x
   pub bad : ValidBook b → (k : ℕ) → BadAt (network b) bytes k → r ≡ refused_answer (BadRide k)
   pub priced : ValidBook b → (route : List Leg) → bytes_of route ≡ bytes → Admissible (network b) route → Priced (network b) route r
 
 module _ (b bytes : List ℕ) where
-  price_refused_book : (x : Refusal) → book_check b ≡ Refused x → price_of b bytes ≡ refused_answer x
+  price_refused_book : (x : Refusal) → book_check b ≡ Err x → price_of b bytes ≡ refused_answer x
   unfolding price_of ◌and_then◌ answer_to
   price_refused_book x e = rw e
 
-  price_refused_route : (x : Refusal) → book_check b ≡ Good → route_check (network b) bytes ≡ Refused x → price_of b bytes ≡ refused_answer x
+  price_refused_route : (x : Refusal) → book_check b ≡ Ok tt → route_check (network b) bytes ≡ Err x → price_of b bytes ≡ refused_answer x
   unfolding price_of ◌and_then◌ answer_to
   price_refused_route x g e = rw (g, e)
 
-  price_good : book_check b ≡ Good → route_check (network b) bytes ≡ Good → price_of b bytes ≡ answer_of (network b) (route_of bytes)
+  price_good : book_check b ≡ Ok tt → route_check (network b) bytes ≡ Ok tt → price_of b bytes ≡ answer_of (network b) (route_of bytes)
   unfolding price_of ◌and_then◌ answer_to
   price_good g e = rw (g, e)
 
@@ -58,7 +57,7 @@ module _ (b bytes : List ℕ) where
             (priced_is (network b) route r).1 (e ∙ price_good ((book_good b).1 v) good ∙ ap (answer_of (network b)) same);
       }
 
-      judged : Answered b bytes r → book_check b ≡ Good → r ≡ price_of b bytes
+      judged : Answered b bytes r → book_check b ≡ Ok tt → r ≡ price_of b bytes
       judged a g =
           let v = (book_good b).0 g in
           ⊎_elim
@@ -70,8 +69,8 @@ module _ (b bytes : List ℕ) where
           (route_judged (network b) bytes)
 
       holds : Answered b bytes r → (j : Judged) → book_check b ≡ j → r ≡ price_of b bytes
-      holds a Good e = judged a e
-      holds a (Refused x) e = a.book x e ∙ sym (price_refused_book x e)
+      holds a (Ok _) e = judged a e
+      holds a (Err x) e = a.book x e ∙ sym (price_refused_book x e)
 
   -- it allows one answer
   pub one_answer : (r q : Answer) → Answered b bytes r → Answered b bytes q → r ≡ q

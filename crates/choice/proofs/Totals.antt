@@ -7,7 +7,7 @@ use lib.ListN.{length, take, drop, take-append-drop}
 use lib.Seq.{drop-drop}
 use Rattle.outline.specs.declared.Leg.{Leg}
 use Rattle.outline.specs.declared.Run.{Run}
-use Rattle.outline.specs.declared.Saving.TheVariants.{Yen}
+use Rattle.std.specs.Prelude.{Some}
 use Rattle.outline.specs.Network.{Network}
 use Rattle.outline.specs.Matching.{run_of, sum_of}
 use Rattle.outline.specs.Selections.{Earn, Apart, total}
@@ -23,7 +23,7 @@ sum_split N n s = sym (sum_append N (take n s) (drop n s)) ∙ ap (sum_of N) (ta
 
 -- what a rule earns is less than what the run costs
 abbrev pub Frugal : Network → List Leg → Earn → Type 0
-Frugal N route earn = (first rides k y : ℕ) → earn first rides k ≡ Yen y → y < sum_of N (run_of route first rides)
+Frugal N route earn = (first rides k y : ℕ) → earn first rides k ≡ Some y → y < sum_of N (run_of route first rides)
 
 module _ (N : Network) (route : List Leg) (earn : Earn) (frugal : Frugal N route earn) (rules : ℕ) where
   -- a run and what comes after it, of the rides from `from` on

@@ -2,6 +2,8 @@
 -- the arguments, the answer and the lent memory at the end. The prover shows that every call ends and meets it, whatever was lent: none of
 -- these operations asks anything of its caller. That each contract allows one answer is proved at the end.
 use Prim.Native.Nat.{ℕ}
+use Rattle.outline.specs.Refusals.{Judged}
+use Rattle.std.proofs.Common.{Ok, Err}
 use mathlib.Core.Path.{◌≡◌, sym, ap, ◌∙◌}
 use mathlib.Core.Logic.{◌↔◌}
 use mathlib.Core.Bool.{Bool}
@@ -10,17 +12,13 @@ use Rattle.outline.specs.declared.Leg.{Leg}
 use Rattle.outline.specs.declared.Question.{Question}
 use Rattle.outline.specs.Tests.{choose}
 use Rattle.outline.specs.declared.Answer.{Answer}
-use Rattle.outline.specs.declared.Written.{Written}
-use Rattle.outline.specs.declared.Written.TheVariants.{NotWritten}
 use Rattle.outline.specs.declared.Refusal.{Refusal}
 use Rattle.outline.specs.declared.Refusal.TheVariants.{NoRoute}
-use Rattle.outline.specs.declared.Judged.{Judged}
-use Rattle.outline.specs.declared.Judged.TheVariants.{Good, Refused}
 use Rattle.outline.specs.Book.{fares_of, network}
 use Rattle.outline.specs.Sheet.{fares_in, sheet_of}
 use Rattle.outline.specs.SheetValid.{ValidSheet}
 use Rattle.outline.specs.Writing.{book_of}
-use Rattle.outline.specs.Lending.{filled, leaves, read_leaves, write_leaves}
+use Rattle.outline.specs.Lending.{filled, leaves, read_leaves, write_leaves, Written}
 use Rattle.outline.specs.Valid.{ValidBook, Bytes}
 use Rattle.outline.specs.Judging.{book_check}
 use Rattle.outline.specs.Price.{Priced, refused_answer}
@@ -42,24 +40,24 @@ use Rattle.sheet.proofs.trips.book_returns.Reads as book_returns
 -- ---- 1. Every book, sheet, route and question is answered, or refused with its number and place exactly when the outline says so.
 
 -- a book is good exactly where it is valid; laws/proofs/Order says for each refusal which books have it
-pub good_book : (κs : _) (a : _) (r : Judged) (e : _) → judge.Post κs a r e → (r ≡ Good) ↔ ValidBook a.0.now
+pub good_book : (κs : _) (a : _) (r : Judged) (e : _) → judge.Post κs a r e → (r ≡ Ok tt) ↔ ValidBook a.0.now
 good_book κs a r e p = (λ g. (book_good a.0.now).0 (sym p ∙ g), λ v. p ∙ (book_good a.0.now).1 v)
 
 -- a refusal changes no lent memory
-pub refused_read : (κs : _) (a : _) (r : Written) (e : _) (x : Refusal) → read.Post κs a r e → r ≡ NotWritten x → e.1.0.now ≡ a.1.0.now
+pub refused_read : (κs : _) (a : _) (r : Written) (e : _) (x : Refusal) → read.Post κs a r e → r ≡ Err x → e.1.0.now ≡ a.1.0.now
 unfolding read_leaves leaves
 refused_read κs a r e x p n = p.1 ∙ ap (λ (w : Written). leaves w (sheet_of (fares_of a.0.now)) a.1.0.now) (sym p.0 ∙ n)
 
-pub refused_write : (κs : _) (a : _) (r : Written) (e : _) (x : Refusal) → write.Post κs a r e → r ≡ NotWritten x → e.1.0.now ≡ a.1.0.now
+pub refused_write : (κs : _) (a : _) (r : Written) (e : _) (x : Refusal) → write.Post κs a r e → r ≡ Err x → e.1.0.now ≡ a.1.0.now
 unfolding write_leaves leaves
 refused_write κs a r e x p n = p.1 ∙ ap (λ (w : Written). leaves w (book_of (fares_in a.0.now)) a.1.0.now) (sym p.0 ∙ n)
 
 -- a question is refused as its book is, or as it is itself; cheapest/proofs/Asking says for each refusal which questions have it
-pub refused_for_the_book : (κs : _) (a : _) (r : Answer) (e : _) (x : Refusal) → cheapest.Post κs a r e → book_check a.0.now ≡ Refused x → r ≡ refused_answer x
+pub refused_for_the_book : (κs : _) (a : _) (r : Answer) (e : _) (x : Refusal) → cheapest.Post κs a r e → book_check a.0.now ≡ Err x → r ≡ refused_answer x
 refused_for_the_book κs a r e x p h = refused_book a.0.now a.1.0 r x p h
 
 pub refused_itself : (κs : _) (a : _) (r : Answer) (e : _) (x : Refusal) → cheapest.Post κs a r e → ValidBook a.0.now
-    → question_check (network a.0.now) a.1.0 ≡ Refused x → r ≡ refused_answer x
+    → question_check (network a.0.now) a.1.0 ≡ Err x → r ≡ refused_answer x
 refused_itself κs a r e x p v h = refused_question a.0.now a.1.0 r x p v h
 
 -- ---- 2. A given route's fare and its choice of discounts are the outline's.
@@ -88,7 +86,7 @@ best_discounts b q r f = (priced_is (network b) f.route r).1 f.is
 
 -- "No route" exactly when none exists.
 pub no_route_exactly : (κs : _) (a : _) (r : Answer) (e : _) → cheapest.Post κs a r e → ValidBook a.0.now → GoodQuestion (network a.0.now) a.1.0
-    → (r.judged ≡ Refused NoRoute) ↔ ((t : List Leg) → Joins (network a.0.now) a.1.0 t → ⊥)
+    → (r.judged ≡ Err NoRoute) ↔ ((t : List Leg) → Joins (network a.0.now) a.1.0 t → ⊥)
 no_route_exactly κs a r e p v g = no_route (network a.0.now) a.1.0 r (cheapest_answered κs a r e p v g)
 
 -- ---- one answer, and one memory; book/proofs/Unique says it of the operations on a book

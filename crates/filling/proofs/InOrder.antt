@@ -16,6 +16,11 @@ pub order_more : (f : ℕ → List ℕ) (k : ℕ) → in_order f (k + 1) ≡ in_
 unfolding in_order
 order_more f k = rw add-one refl
 
+-- no list is written before the first turn
+pub order_none : (f : ℕ → List ℕ) (d : List ℕ) → d ≡ filled (in_order f 0) d
+unfolding in_order filled
+order_none f d = refl
+
 pub order_more_length : (f : ℕ → List ℕ) (k : ℕ) → length (in_order f (k + 1)) ≡ length (in_order f k) + length (f k)
 order_more_length f k = ap length (order_more f k) ∙ length-append (in_order f k) (f k)
 
@@ -85,3 +90,11 @@ pub order_turn : (f : ℕ → List ℕ) (n k : ℕ) (d e back : List ℕ) (w : �
 order_turn f n k d e back w h room p q r =
     let here = order_room f n k h in
     filled_lent (in_order f k) (f k) d e back w p q (omega arith) r ∙ ap (λ (x : List ℕ). filled x d) (sym (order_more f k))
+
+-- the same of lists of p numbers each, where the part after the first k begins at p * k
+pub order_turn_sized : (f : ℕ → List ℕ) (p n k : ℕ) (d e back : List ℕ) (w : ℕ) → ((j : ℕ) → j < n → length (f j) ≡ p) → k < n → p * n ≤ length d
+    → e ≡ filled (in_order f k) d → w ≡ p * k → back ≡ filled (f k) (take (length e - w) (drop w e))
+    → take w e ++ (back ++ drop (length e - w) (drop w e)) ≡ filled (in_order f (k + 1)) d
+order_turn_sized f p n k d e back w sized h room q at r =
+    let first = order_length f p k (λ j l. sized j (omega arith)) in
+    order_turn f n k d e back w h (omega (arith, order_length f p n sized)) q (at ∙ sym first) r

@@ -4,7 +4,8 @@ use mathlib.Core.Path.{◌≡◌, refl}
 use native.Mathlib.Omega.{arith}
 use lib.ListN.{length, length-append}
 use Rattle.outline.specs.declared.Link.{Link}
-use Rattle.outline.specs.Fares.{Table, Rule}
+use Rattle.outline.specs.declared.Rule.{Rule}
+use Rattle.outline.specs.Fares.{Table}
 use Rattle.outline.specs.Book.{company_length, link_length, rule_length}
 use Rattle.outline.specs.Sheet.{table_numbers, link_numbers, rule_numbers, table_sheet, link_sheet, rule_sheet}
 use Rattle.outline.specs.Writing.{two_bytes, table_bytes, link_bytes, rule_bytes}

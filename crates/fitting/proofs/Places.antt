@@ -1,5 +1,6 @@
 -- The places that refusals name fit the word's 24 bits.
 use Prim.Native.Nat.{ℕ, zero, suc, ◌+◌, ◌*◌, ◌≤◌, ◌<◌}
+use Rattle.std.proofs.Common.{Ok, Err}
 use mathlib.Core.Path.{◌≡◌, refl}
 use mathlib.Core.Bool.{Bool, true, false}
 use mathlib.Core.List.{List}
@@ -8,10 +9,8 @@ use native.Mathlib.Omega.{arith}
 use lib.ListN.{length}
 use Rattle.outline.specs.declared.Refusal.{Refusal}
 use Rattle.outline.specs.declared.Refusal.TheVariants.{WrongLength, UnknownLayout, OutsideLimits, BadContents, BadStations, BadEntry, BadLink, BadRule, UnknownStation, SameStation, BadLimit, NoRoute, NoRoom, BadRide}
-use Rattle.outline.specs.declared.Judged.{Judged}
-use Rattle.outline.specs.declared.Judged.TheVariants.{Good, Refused}
 use Rattle.outline.specs.declared.Question.{Question}
-use Rattle.outline.specs.Refusals.{place_of, demand, ◌and_then◌, first_below}
+use Rattle.outline.specs.Refusals.{place_of, demand, ◌and_then◌, first_below, Judged}
 use Rattle.outline.specs.Fares.{Fares, table_at}
 use Rattle.outline.specs.Network.{Network, network_of}
 use Rattle.outline.specs.Book.{network, fares_of, company_count, offset_of, end_before, body_of, station_count}
@@ -36,13 +35,13 @@ Small x = place_of x < most_place
 names_where : (Q : Refusal → Type 0) (t : Bool) (x : Refusal) (next : Judged) → Q x → (t ≡ true → Names Q next) → Names Q (demand t x next)
 unfolding demand
 names_where Q true x next q r = names_demand Q true x next q (r refl)
-names_where Q false x next q r = names_demand Q false x Good q (names_good Q)
+names_where Q false x next q r = names_demand Q false x (Ok tt) q (names_good Q)
 
 -- what comes after a check is looked at only where it is good
-names_onward : (Q : Refusal → Type 0) (a next : Judged) → Names Q a → (a ≡ Good → Names Q next) → Names Q (a and_then next)
+names_onward : (Q : Refusal → Type 0) (a next : Judged) → Names Q a → (a ≡ Ok tt → Names Q next) → Names Q (a and_then next)
 unfolding ◌and_then◌
-names_onward Q Good next p r = r refl
-names_onward Q (Refused x) next p r = p
+names_onward Q (Ok _) next p r = r refl
+names_onward Q (Err x) next p r = p
 
 -- of so many checks the refusal is one's of these
 names_below : (Q : Refusal → Type 0) (f : ℕ → Judged) (n : ℕ) → ((k : ℕ) → k < n → Names Q (f k)) → Names Q (first_below f n)
@@ -63,7 +62,7 @@ offset_small b w (suc c) h =
     let few = small_product 40 body.stations.to body.stations.to in
     omega (arith, (w.companies (suc c) h).body.follows, body.long)
 
-entry_small : (b : List ℕ) (p : ℕ) → book_check b ≡ Refused (BadEntry p) → p < most_place
+entry_small : (b : List ℕ) (p : ℕ) → book_check b ≡ Err (BadEntry p) → p < most_place
 unfolding entry_offset network network_of
 entry_small b p e =
     let (laid, found) = (bad_entry b p).0 e in

@@ -1,6 +1,7 @@
 -- No part of a word runs into another: from every word that the C face returns, its bits give back what was written, the refusal's number
 -- and its place.
 use Prim.Native.Nat.{ℕ, ◌<◌}
+use Rattle.std.proofs.Common.{Ok, Err}
 use mathlib.Core.Path.{◌≡◌, refl}
 use mathlib.Core.Bool.{Bool, true, false}
 use mathlib.Core.List.{List, []}
@@ -10,20 +11,16 @@ use lib.Dec.{leb, ltb}
 use borrow.Author.Tests.{ltb-true}
 use Rattle.outline.specs.declared.Refusal.{Refusal}
 use Rattle.outline.specs.declared.Refusal.TheVariants.{WrongLength, UnknownLayout, OutsideLimits, BadContents, BadStations, BadEntry, BadLink, BadRule, UnknownStation, SameStation, BadLimit, NoRoute, NoRoom, BadRide}
-use Rattle.outline.specs.declared.Judged.{Judged}
-use Rattle.outline.specs.declared.Judged.TheVariants.{Good, Refused}
-use Rattle.outline.specs.declared.Written.{Written}
-use Rattle.outline.specs.declared.Written.TheVariants.{Wrote, NotWritten}
 use Rattle.outline.specs.declared.Question.{Question}
 use Rattle.outline.specs.declared.Answer.{Answer}
 use Rattle.outline.specs.Tests.{choose}
-use Rattle.outline.specs.Refusals.{number_of, place_of}
+use Rattle.outline.specs.Refusals.{number_of, place_of, Judged}
 use Rattle.outline.specs.Book.{company_count, offset_of, body_of, fares_of}
 use Rattle.outline.specs.Judging.{book_check, where_good, company_body, company_offset}
 use Rattle.outline.specs.Sheet.{fares_in, sheet_of}
 use Rattle.outline.specs.SheetJudging.{sheet_check}
 use Rattle.outline.specs.Writing.{book_of}
-use Rattle.outline.specs.Lending.{count_of, refusal_of, refusal_place_of, answered, read_answer, write_answer}
+use Rattle.outline.specs.Lending.{count_of, refusal_of, refusal_place_of, answered, read_answer, write_answer, Written}
 use Rattle.outline.specs.Price.{price_of}
 use Rattle.outline.specs.Questions.{Asked}
 use Rattle.laws.proofs.Judging.{book_good}
@@ -58,19 +55,19 @@ abbrev pub Told : Written → Type 0
 Told w = Parts (written_word w) (count_of w) (refusal_of w) (refusal_place_of w)
 
 told : (w : Written) → count_of w < 4294967296 → refusal_place_of w < most_place → Told w
-told (Wrote n) c p = word_parts n 0 0 c (omega arith) p
-told (NotWritten x) c p = word_parts 0 (number_of x) (place_of x) c (number_small x) p
+told (Ok n) c p = word_parts n 0 0 c (omega arith) p
+told (Err x) c p = word_parts 0 (number_of x) (place_of x) c (number_small x) p
 
-count_small : (j : Judged) (result lent : List ℕ) → (j ≡ Good → length result < 4294967296) → count_of (answered j result lent) < 4294967296
+count_small : (j : Judged) (result lent : List ℕ) → (j ≡ Ok tt → length result < 4294967296) → count_of (answered j result lent) < 4294967296
 unfolding answered choose
-count_small Good result lent h = room (leb (length result) (length lent))
+count_small (Ok _) result lent h = room (leb (length result) (length lent))
   where
-    room : (t : Bool) → count_of (choose t (Wrote (length result)) (NotWritten NoRoom)) < 4294967296
+    room : (t : Bool) → count_of (choose t (Ok (length result)) (Err NoRoom)) < 4294967296
     room true = h refl
     room false = omega arith
-count_small (Refused x) result lent h = omega arith
+count_small (Err x) result lent h = omega arith
 
-pub check_told : (b : List ℕ) (x : Refusal) → book_check b ≡ Refused x → Parts (refused_word x) 0 (number_of x) (place_of x)
+pub check_told : (b : List ℕ) (x : Refusal) → book_check b ≡ Err x → Parts (refused_word x) 0 (number_of x) (place_of x)
 check_told b x e = word_parts 0 (number_of x) (place_of x) (omega arith) (number_small x) (book_places b x e)
 
 -- of a company's body the length and the offset
@@ -84,7 +81,7 @@ company_told b c = go (book_check b) refl (ltb c (company_count b)) refl
         (length (where_good j (choose t (body_of b c) []) []))
         0
         (where_good j (choose t (offset_of b c) 0) 0)
-    go Good g true h =
+    go (Ok _) g true h =
         let laid = ((book_good b).0 g).laid_out in
         let here : c < company_count b = ltb-true _ _ h in
         let few = (laid.companies c here).stations.to in
@@ -93,8 +90,8 @@ company_told b c = go (book_check b) refl (ltb c (company_count b)) refl
         let most = laid.header.companies.to in
         let long = company_long b laid c here in
         word_parts (length (body_of b c)) 0 (offset_of b c) (omega arith) (omega arith) (omega arith)
-    go Good g false h = word_parts 0 0 0 (omega arith) (omega arith) (omega arith)
-    go (Refused x) g t h = word_parts 0 0 0 (omega arith) (omega arith) (omega arith)
+    go (Ok _) g false h = word_parts 0 0 0 (omega arith) (omega arith) (omega arith)
+    go (Err x) g t h = word_parts 0 0 0 (omega arith) (omega arith) (omega arith)
 
 pub read_told : (b lent : List ℕ) → Told (read_answer b lent)
 unfolding read_answer

@@ -1,5 +1,7 @@
 -- What the C face may take for granted of an answer: four places, and a refusal whose place fits the word.
 use Prim.Native.Nat.{ℕ, ◌<◌}
+use Rattle.outline.specs.Refusals.{Judged}
+use Rattle.std.proofs.Common.{Ok, Err}
 use mathlib.Core.Path.{◌≡◌, refl}
 use mathlib.Core.Bool.{Bool, true, false}
 use mathlib.Core.List.{List}
@@ -9,8 +11,6 @@ use lib.ListN.{length}
 use lib.Dec.{leb}
 use Rattle.outline.specs.declared.Refusal.{Refusal}
 use Rattle.outline.specs.declared.Refusal.TheVariants.{NoRoute, NoRoom}
-use Rattle.outline.specs.declared.Judged.{Judged}
-use Rattle.outline.specs.declared.Judged.TheVariants.{Good, Refused}
 use Rattle.outline.specs.declared.Leg.{Leg}
 use Rattle.outline.specs.declared.Question.{Question}
 use Rattle.outline.specs.declared.Answer.{Answer}
@@ -21,7 +21,6 @@ use Rattle.outline.specs.Routes.{route_of}
 use Rattle.outline.specs.Price.{answer_with, answer_of, refused_answer, answer_to, price_of}
 use Rattle.outline.specs.Questions.{Answered, AnswerTo, Asked}
 use Rattle.laws.proofs.Named.{Names, names_good, names_then, same_refusal}
-use Rattle.outline.specs.declared.Written.TheVariants.{Wrote, NotWritten}
 use Rattle.outline.specs.Lending.{refusal_place_of, answered}
 use Rattle.telling.specs.Word.{most_place}
 use Rattle.fitting.proofs.Places.{Small, book_places, route_places, question_places}
@@ -40,8 +39,8 @@ answer_tellable N route = record { four = refl; small = names_good Small }
 
 to_tellable : (j : Judged) (a : Answer) → Names Small j → Tellable a → Tellable (answer_to j a)
 unfolding answer_to
-to_tellable Good a n t = t
-to_tellable (Refused x) a n t = refused_tellable x (n x refl)
+to_tellable (Ok _) a n t = t
+to_tellable (Err x) a n t = refused_tellable x (n x refl)
 
 pub price_tellable : (b bytes : List ℕ) → Tellable (price_of b bytes)
 unfolding price_of
@@ -54,8 +53,8 @@ found_tellable N q a (inr f) = rw f.is (refused_tellable NoRoute (omega arith))
 
 asked_tellable_by : (j : Judged) (N : Network) (q : Question) (a : Answer) → Names Small j → AnswerTo j N q a → Tellable a
 unfolding AnswerTo
-asked_tellable_by Good N q a n h = found_tellable N q a h
-asked_tellable_by (Refused x) N q a n h = rw h (refused_tellable x (n x refl))
+asked_tellable_by (Ok _) N q a n h = found_tellable N q a h
+asked_tellable_by (Err x) N q a n h = rw h (refused_tellable x (n x refl))
 
 pub asked_tellable : (b : List ℕ) (q : Question) (a : Answer) → Asked b q a → Tellable a
 unfolding Asked
@@ -64,9 +63,9 @@ asked_tellable b q a h = asked_tellable_by _ (network b) q a (names_then Small _
 -- what is written of a judgement names a place that fits
 pub written_small : (j : Judged) (result lent : List ℕ) → Names Small j → refusal_place_of (answered j result lent) < most_place
 unfolding answered choose
-written_small Good result lent n = room (leb (length result) (length lent))
+written_small (Ok _) result lent n = room (leb (length result) (length lent))
   where
-    room : (t : Bool) → refusal_place_of (choose t (Wrote (length result)) (NotWritten NoRoom)) < most_place
+    room : (t : Bool) → refusal_place_of (choose t (Ok (length result)) (Err NoRoom)) < most_place
     room true = omega arith
     room false = omega arith
-written_small (Refused x) result lent n = n x refl
+written_small (Err x) result lent n = n x refl

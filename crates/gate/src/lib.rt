@@ -8,36 +8,29 @@ ghost use Rattle.outline.specs.Lending.{read_answer, read_leaves, write_answer, 
 ghost use Rattle.telling.specs.Word.{judged_word, written_word, part_word};
 ghost use Rattle.telling.specs.Answers.{Tells, TellsCheapest, question};
 
-use layout::bytes::wide;
-use outline::{Judged, Question, Station};
+use outline::{Question, Refusal, Station};
 use telling::{answers, words};
 
 // Whether a book is good.
 pub fn fares_check(book: &[u8]) -> u64
     ensures { result ≡ judged_word (book_check book.now) }
 {
-    let found = book::judge(book);
-    match found {
-        Judged::Good => 0,
-        Judged::Refused(x) => words::refused(x),
+    match book::judge(book) {
+        Ok(()) => 0,
+        Err(x) => words::refused(x),
     }
 }
 
 // Where a company's body stands in the book.
+#[tactic(auto, unfolding(outline::specs::Judging::company_body, outline::specs::Judging::company_offset, outline::specs::Judging::where_good, outline::specs::Tests::choose))]
 pub fn fares_company(book: &[u8], company: u8) -> u64
     ensures { result ≡ part_word (company_offset book.now company) (length (company_body book.now company)) }
 {
-    let found = book::judge(book);
-    let Judged::Good = found else {
+    if book::judge(book).is_err() || layout::companies(book) <= company {
         return 0;
-    };
-    if company < layout::companies(book) {
-        return words::part(
-            layout::offset(book, wide(company)),
-            layout::extent(book, wide(company)),
-        );
     }
-    0
+    let c = usize::from(company);
+    words::part(layout::offset(book, c), layout::extent(book, c))
 }
 
 // A book read into a lent sheet.

@@ -1,6 +1,8 @@
 -- What is true of a valid book: its bodies fill it without gaps, a company's body is never empty, and two stations have at most one link;
 -- and that the bad entry a book is refused for is the one of the lowest offset.
 use Prim.Native.Nat.{ℕ, zero, suc, ◌+◌, ◌≤◌, ◌<◌}
+use Rattle.outline.specs.Refusals.{Judged}
+use Rattle.std.proofs.Common.{Ok, Err}
 use mathlib.Core.Path.{◌≡◌, refl, sym, ap, ap₂, subst, ◌∙◌}
 use mathlib.Core.Bool.{Bool, true, false}
 use mathlib.Core.List.{List, []}
@@ -14,10 +16,7 @@ use borrow.Author.Tests.{ltb-true, ltb-false, le-ltb, lt-ltb}
 use borrow.Author.Count.{below_more}
 use Rattle.outline.specs.declared.Station.{Station}
 use Rattle.outline.specs.declared.Link.{Link}
-use Rattle.outline.specs.declared.Joined.{Joined}
-use Rattle.outline.specs.declared.Joined.TheVariants.{ByLink, NoLink}
-use Rattle.outline.specs.declared.Judged.{Judged}
-use Rattle.outline.specs.declared.Judged.TheVariants.{Good, Refused}
+use Rattle.std.specs.Prelude.{Option, Some, None}
 use Rattle.outline.specs.Tests.{choose}
 use Rattle.outline.specs.Fares.{Table, Fares, fare_at, table_at, no_table}
 use Rattle.outline.specs.declared.Refusal.TheVariants.{BadEntry}
@@ -87,35 +86,35 @@ company_body_length b c v h =
     omega (arith, body_length b c w.body.inside, w.long)
 
 -- "where the book is refused or has no such company, the part is empty, and only then"
-pub company_body_empty : (b : List ℕ) (c : ℕ) → (company_body b c ≡ []) ↔ ((book_check b ≡ Good → ⊥) ⊎ (company_count b ≤ c))
+pub company_body_empty : (b : List ℕ) (c : ℕ) → (company_body b c ≡ []) ↔ ((book_check b ≡ Ok tt → ⊥) ⊎ (company_count b ≤ c))
 unfolding company_body where_good choose
 company_body_empty b c = (only, empty)
   where
-    only : company_body b c ≡ [] → (book_check b ≡ Good → ⊥) ⊎ (company_count b ≤ c)
+    only : company_body b c ≡ [] → (book_check b ≡ Ok tt → ⊥) ⊎ (company_count b ≤ c)
     only e = judged (book_check b) refl
       where
-        there : book_check b ≡ Good → (t : Bool) → ltb c (company_count b) ≡ t → company_count b ≤ c
+        there : book_check b ≡ Ok tt → (t : Bool) → ltb c (company_count b) ≡ t → company_count b ≤ c
         there g true q =
             let h = ltb-true _ _ q in
             let z = ap length (sym (company_body_lem b c ((book_good b).0 g) h) ∙ e) in
             omega (arith, company_body_length b c ((book_good b).0 g) h)
         there g false q = ltb-false _ _ q
 
-        judged : (a : Judged) → book_check b ≡ a → (book_check b ≡ Good → ⊥) ⊎ (company_count b ≤ c)
-        judged Good g = inr (there g (ltb c (company_count b)) refl)
-        judged (Refused x) r = inl (λ g. refused_not_good (sym r ∙ g))
+        judged : (a : Judged) → book_check b ≡ a → (book_check b ≡ Ok tt → ⊥) ⊎ (company_count b ≤ c)
+        judged (Ok _) g = inr (there g (ltb c (company_count b)) refl)
+        judged (Err x) r = inl (λ g. refused_not_good (sym r ∙ g))
 
-    empty : (book_check b ≡ Good → ⊥) ⊎ (company_count b ≤ c) → company_body b c ≡ []
+    empty : (book_check b ≡ Ok tt → ⊥) ⊎ (company_count b ≤ c) → company_body b c ≡ []
     empty (inl n) = judged (book_check b) refl
       where
         judged : (a : Judged) → book_check b ≡ a → where_good a (choose (ltb c (company_count b)) (body_of b c) []) [] ≡ []
-        judged Good g = absurd (n g)
-        judged (Refused x) r = refl
+        judged (Ok _) g = absurd (n g)
+        judged (Err x) r = refl
     empty (inr l) = judged (book_check b)
       where
         judged : (a : Judged) → where_good a (choose (ltb c (company_count b)) (body_of b c) []) [] ≡ []
-        judged Good = rw (le-ltb _ _ l)
-        judged (Refused x) = refl
+        judged (Ok _) = rw (le-ltb _ _ l)
+        judged (Err x) = refl
 
 -- ---- the links between two stations
 
@@ -158,40 +157,40 @@ module _ (N : Network) (good : GoodLinks N) where
 
 -- what is found among the first n links
 
-else_none : (a next : Joined) → or_else a next ≡ NoLink → (a ≡ NoLink) × (next ≡ NoLink)
+else_none : (a next : Option ℕ) → or_else a next ≡ None → (a ≡ None) × (next ≡ None)
 unfolding or_else
-else_none (ByLink k) next e = absurd (let z : ◌≡◌ {A = ℕ} 0 1 = cc in omega arith)
-else_none NoLink next e = (refl, e)
+else_none (Some k) next e = absurd (let z : ◌≡◌ {A = ℕ} 0 1 = cc in omega arith)
+else_none None next e = (refl, e)
 
-else_by : (a next : Joined) (k : ℕ) → or_else a next ≡ ByLink k → (a ≡ ByLink k) ⊎ (next ≡ ByLink k)
+else_by : (a next : Option ℕ) (k : ℕ) → or_else a next ≡ Some k → (a ≡ Some k) ⊎ (next ≡ Some k)
 unfolding or_else
-else_by (ByLink j) next k e = inl e
-else_by NoLink next k e = inr e
+else_by (Some j) next k e = inl e
+else_by None next k e = inr e
 
-here_none : (t : Bool) (n : ℕ) → choose t (ByLink n) NoLink ≡ NoLink → t ≡ false
+here_none : (t : Bool) (n : ℕ) → choose t (Some n) None ≡ None → t ≡ false
 unfolding choose
 here_none true n e = absurd (let z : ◌≡◌ {A = ℕ} 0 1 = cc in omega arith)
 here_none false n e = refl
 
-here_by : (t : Bool) (n k : ℕ) → choose t (ByLink n) NoLink ≡ ByLink k → (t ≡ true) × (n ≡ k)
+here_by : (t : Bool) (n k : ℕ) → choose t (Some n) None ≡ Some k → (t ≡ true) × (n ≡ k)
 unfolding choose
 here_by true n k e = (refl, cc)
 here_by false n k e = absurd (let z : ◌≡◌ {A = ℕ} 0 1 = cc in omega arith)
 
 module _ (N : Network) (x y : Station) where
-  joined_none : (n : ℕ) → joined_below N x y n ≡ NoLink → (k : ℕ) → k < n → joins (N.link k) x y ≡ false
+  joined_none : (n : ℕ) → joined_below N x y n ≡ None → (k : ℕ) → k < n → joins (N.link k) x y ≡ false
   unfolding joined_below
   joined_none zero e k h = absurd (not-suc-le-zero h)
   joined_none (suc n) e k h =
       let p = else_none (joined_below N x y n) _ e in
       below_more (λ (j : ℕ). joins (N.link j) x y ≡ false) n (joined_none n p.0) (here_none _ n p.1) k (omega arith)
 
-  none_joined : (n : ℕ) → ((k : ℕ) → k < n → joins (N.link k) x y ≡ false) → joined_below N x y n ≡ NoLink
+  none_joined : (n : ℕ) → ((k : ℕ) → k < n → joins (N.link k) x y ≡ false) → joined_below N x y n ≡ None
   unfolding joined_below or_else choose
   none_joined zero h = refl
   none_joined (suc n) h = rw (none_joined n (λ k l. h k (omega arith)), h n (omega arith))
 
-  joined_by : (n k : ℕ) → joined_below N x y n ≡ ByLink k → (k < n) × (joins (N.link k) x y ≡ true)
+  joined_by : (n k : ℕ) → joined_below N x y n ≡ Some k → (k < n) × (joins (N.link k) x y ≡ true)
   unfolding joined_below
   joined_by zero k e = absurd (let z : ◌≡◌ {A = ℕ} 0 1 = cc in omega arith)
   joined_by (suc n) k e =
@@ -201,25 +200,25 @@ module _ (N : Network) (x y : Station) where
       (else_by (joined_below N x y n) _ k e)
 
   -- no link is found exactly where no link joins the stations
-  pub no_link_lem : (link_between N x y ≡ NoLink) ↔ ((k : ℕ) → k < N.links → joins (N.link k) x y ≡ false)
+  pub no_link_lem : (link_between N x y ≡ None) ↔ ((k : ℕ) → k < N.links → joins (N.link k) x y ≡ false)
   unfolding link_between
   no_link_lem = (joined_none N.links, none_joined N.links)
 
   -- a link that is found is one of the network's and joins the stations
-  pub found_link : (k : ℕ) → link_between N x y ≡ ByLink k → (k < N.links) × (joins (N.link k) x y ≡ true)
+  pub found_link : (k : ℕ) → link_between N x y ≡ Some k → (k < N.links) × (joins (N.link k) x y ≡ true)
   unfolding link_between
   found_link k e = joined_by N.links k e
 
   -- where the links are good, link k is found exactly where it joins the stations
-  pub by_link : GoodLinks N → (k : ℕ) → (link_between N x y ≡ ByLink k) ↔ ((k < N.links) × (joins (N.link k) x y ≡ true))
+  pub by_link : GoodLinks N → (k : ℕ) → (link_between N x y ≡ Some k) ↔ ((k < N.links) × (joins (N.link k) x y ≡ true))
   unfolding link_between
   by_link good k = (joined_by N.links k, λ h. go h.0 h.1 (joined_below N x y N.links) refl)
     where
-      go : k < N.links → joins (N.link k) x y ≡ true → (a : Joined) → joined_below N x y N.links ≡ a → joined_below N x y N.links ≡ ByLink k
-      go h e (ByLink j) q =
+      go : k < N.links → joins (N.link k) x y ≡ true → (a : Option ℕ) → joined_below N x y N.links ≡ a → joined_below N x y N.links ≡ Some k
+      go h e (Some j) q =
           let p = joined_by N.links j q in
-          q ∙ ap ByLink (one_link N good j k p.0 h x y p.1 e)
-      go h e NoLink q = absurd (true_not_false (sym e ∙ joined_none N.links q k h))
+          q ∙ ap Some (one_link N good j k p.0 h x y p.1 e)
+      go h e None q = absurd (true_not_false (sym e ∙ joined_none N.links q k h))
 
 -- the links of a valid book are good
 pub book_links : (b : List ℕ) → ValidBook b → GoodLinks (network b)
@@ -275,7 +274,7 @@ unfolding entry_offset
 entry_offset_lem b c i j h = rw (table_stations b c h)
 
 -- 6 names the lowest offset in the book of all bad entries
-pub lowest_bad_entry : (b : List ℕ) (p : ℕ) → book_check b ≡ Refused (BadEntry p) → (c i j : ℕ) → BadEntryAt (fares_of b) c i j → p ≤ entry_offset b c i j
+pub lowest_bad_entry : (b : List ℕ) (p : ℕ) → book_check b ≡ Err (BadEntry p) → (c i j : ℕ) → BadEntryAt (fares_of b) c i j → p ≤ entry_offset b c i j
 lowest_bad_entry b p e c i j h =
     let (laid, found) = (bad_entry b p).0 e in
     let (d, k, l, q, f) = found in

@@ -5,7 +5,7 @@ use mathlib.Core.List.{List, [], ◌∷◌}
 use native.Mathlib.Omega.{arith}
 use lib.ListN.{length}
 use Rattle.outline.specs.declared.Leg.{Leg}
-use Rattle.outline.specs.declared.Entry.TheVariants.{NotSold}
+use Rattle.std.specs.Prelude.{None}
 use Rattle.outline.specs.Numbers.{most_fare}
 use Rattle.outline.specs.Tests.{Within}
 use Rattle.outline.specs.Fares.{fare_at, table_at}
@@ -15,7 +15,7 @@ use Rattle.outline.specs.Valid.{ValidBook}
 use Rattle.outline.specs.Routes.{entry_for, Exists, ride_at}
 use Rattle.outline.specs.Matching.{yen_of, sum_of}
 
-yen_of_entry : (x : ℕ) → x ≤ most_fare → (entry_of x ≡ NotSold → ⊥) → Within 1 (yen_of (entry_of x)) most_fare
+yen_of_entry : (x : ℕ) → x ≤ most_fare → (entry_of x ≡ None → ⊥) → Within 1 (yen_of (entry_of x)) most_fare
 unfolding entry_of yen_of
 yen_of_entry zero small sold = absurd (sold refl)
 yen_of_entry (suc x) small sold = record { from = omega arith; to = small }

@@ -1,5 +1,6 @@
 -- A given route is refused with 14 exactly where its bytes are not those of an admissible route, and at its first bad ride.
 use Prim.Native.Nat.{ℕ, ◌/◌}
+use Rattle.std.proofs.Common.{Ok, Err}
 use mathlib.Core.Path.{◌≡◌, refl, sym, ap, ◌∙◌}
 use mathlib.Core.List.{List}
 use mathlib.Core.Logic.{◌⊎◌, inl, inr, ⊎_elim, ◌↔◌}
@@ -8,9 +9,7 @@ use lib.ListN.{length, take}
 use Rattle.outline.specs.declared.Leg.{Leg}
 use Rattle.outline.specs.declared.Refusal.{Refusal}
 use Rattle.outline.specs.declared.Refusal.TheVariants.{WrongLength, UnknownLayout, OutsideLimits, BadContents, BadStations, BadEntry, BadLink, BadRule, UnknownStation, SameStation, BadLimit, NoRoute, NoRoom, BadRide}
-use Rattle.outline.specs.declared.Judged.{Judged}
-use Rattle.outline.specs.declared.Judged.TheVariants.{Good, Refused}
-use Rattle.outline.specs.Refusals.{number_of, first_below}
+use Rattle.outline.specs.Refusals.{number_of, first_below, Judged}
 use Rattle.outline.specs.Network.{Network}
 use Rattle.outline.specs.Routes.{ride_at, Admissible, bytes_of, route_of, ride_check, route_check}
 use Rattle.laws.proofs.Firsts.{refused_not_good, demand_good, demand_holds, first_good, first_holds}
@@ -25,25 +24,25 @@ pub record AdmissibleBytes (N : Network) (bytes : List ℕ) : Type 0 where
   pub is : bytes_of route ≡ bytes
   pub admissible : Admissible N route
 
-ride_is : (N : Network) (route : List Leg) (i : ℕ) → (ride_check N route i ≡ Good) ↔ GoodAt N route i
+ride_is : (N : Network) (route : List Leg) (i : ℕ) → (ride_check N route i ≡ Ok tt) ↔ GoodAt N route i
 unfolding ride_check
 ride_is N route i = (
   λ e. (next_is N (take i route) (ride_at route i)).0 (demand_good _ _ _ e).0,
   λ g. demand_holds _ _ _ ((next_is N (take i route) (ride_at route i)).1 g),
 )
 
-rides_are : (N : Network) (route : List Leg) → (first_below (ride_check N route) (length route) ≡ Good) ↔ GoodRides N route
+rides_are : (N : Network) (route : List Leg) → (first_below (ride_check N route) (length route) ≡ Ok tt) ↔ GoodRides N route
 rides_are N route = (
   λ e i h. (ride_is N route i).0 (first_good (ride_check N route) _ e i h),
   λ g. first_holds (ride_check N route) _ (λ i h. (ride_is N route i).1 (g i h)),
 )
 
 -- good, exactly where the bytes are those of an admissible route
-pub route_good : (N : Network) (bytes : List ℕ) → (route_check N bytes ≡ Good) ↔ AdmissibleBytes N bytes
+pub route_good : (N : Network) (bytes : List ℕ) → (route_check N bytes ≡ Ok tt) ↔ AdmissibleBytes N bytes
 unfolding route_check
 route_good N bytes = (tells, holds)
   where
-    tells : route_check N bytes ≡ Good → AdmissibleBytes N bytes
+    tells : route_check N bytes ≡ Ok tt → AdmissibleBytes N bytes
     tells e =
         let s = demand_good _ _ _ e in
         let w = (whole_is _).0 s.0 in
@@ -53,7 +52,7 @@ route_good N bytes = (tells, holds)
           admissible = (admissible_is N (route_of bytes)).1 (rw (route_length bytes) w.few, (rides_are N (route_of bytes)).0 s.1);
         }
 
-    good : (route : List Leg) → Admissible N route → route_check N (bytes_of route) ≡ Good
+    good : (route : List Leg) → Admissible N route → route_check N (bytes_of route) ≡ Ok tt
     good route a =
         let g = (admissible_is N route).0 a in
         let n = bytes_length route in
@@ -61,7 +60,7 @@ route_good N bytes = (tells, holds)
         let w : Whole (length (bytes_of route)) = record { exact = rw third n; few = rw third g.0 } in
         demand_holds _ _ _ ((whole_is _).1 w) ∙ rw (route_of_bytes route) ((rides_are N route).1 g.1)
 
-    holds : AdmissibleBytes N bytes → route_check N bytes ≡ Good
+    holds : AdmissibleBytes N bytes → route_check N bytes ≡ Ok tt
     holds a = rw a.is at (good a.route a.admissible)
 
 -- a given route is refused with nothing but 14
@@ -82,21 +81,21 @@ BadAt N bytes k =
     ((Whole (length bytes) → ⊥) × (0 ≡ k))
     ⊎ (Whole (length bytes) × FirstBad (GoodAt N (route_of bytes)) (length (route_of bytes)) k)
 
-pub bad_ride : (N : Network) (bytes : List ℕ) (k : ℕ) → (route_check N bytes ≡ Refused (BadRide k)) ↔ BadAt N bytes k
+pub bad_ride : (N : Network) (bytes : List ℕ) (k : ℕ) → (route_check N bytes ≡ Err (BadRide k)) ↔ BadAt N bytes k
 unfolding route_check
 bad_ride N bytes k = (tells, holds)
   where
-    outer : (route_check N bytes ≡ Refused (BadRide k))
-        ↔ (((Whole (length bytes) → ⊥) × (BadRide 0 ≡ BadRide k)) ⊎ (Whole (length bytes) × (first_below (ride_check N (route_of bytes)) (length (route_of bytes)) ≡ Refused (BadRide k))))
+    outer : (route_check N bytes ≡ Err (BadRide k))
+        ↔ (((Whole (length bytes) → ⊥) × (BadRide 0 ≡ BadRide k)) ⊎ (Whole (length bytes) × (first_below (ride_check N (route_of bytes)) (length (route_of bytes)) ≡ Err (BadRide k))))
     outer = demand_refused _ (BadRide 0) _ (BadRide k) (whole_is (length bytes))
 
-    inner : (first_below (ride_check N (route_of bytes)) (length (route_of bytes)) ≡ Refused (BadRide k)) ↔ FirstBad (GoodAt N (route_of bytes)) (length (route_of bytes)) k
+    inner : (first_below (ride_check N (route_of bytes)) (length (route_of bytes)) ≡ Err (BadRide k)) ↔ FirstBad (GoodAt N (route_of bytes)) (length (route_of bytes)) k
     inner = first_refused_with (GoodAt N (route_of bytes)) (ride_check N (route_of bytes)) BadRide (length (route_of bytes)) k (names_own N (route_of bytes)) (λ j. refl) (ride_is N (route_of bytes))
 
-    tells : route_check N bytes ≡ Refused (BadRide k) → BadAt N bytes k
+    tells : route_check N bytes ≡ Err (BadRide k) → BadAt N bytes k
     tells e = ⊎_elim (λ f. inl (f.0, same f.1)) (λ h. inr (h.0, inner.0 h.1)) (outer.0 e)
 
-    holds : BadAt N bytes k → route_check N bytes ≡ Refused (BadRide k)
+    holds : BadAt N bytes k → route_check N bytes ≡ Err (BadRide k)
     holds (inl f) = outer.1 (inl (f.0, ap BadRide f.1))
     holds (inr h) = outer.1 (inr (h.0, inner.1 h.1))
 
@@ -118,9 +117,9 @@ bad NoRoom e = absurd (omega arith)
 bad (BadRide k) e = (k, refl)
 
 -- a given route is admissible, or refused at one bad ride
-pub route_judged : (N : Network) (bytes : List ℕ) → AdmissibleBytes N bytes ⊎ ((k : ℕ) × (route_check N bytes ≡ Refused (BadRide k)) × (AdmissibleBytes N bytes → ⊥))
+pub route_judged : (N : Network) (bytes : List ℕ) → AdmissibleBytes N bytes ⊎ ((k : ℕ) × (route_check N bytes ≡ Err (BadRide k)) × (AdmissibleBytes N bytes → ⊥))
 route_judged N bytes = go (route_check N bytes) refl
   where
-    go : (a : Judged) → route_check N bytes ≡ a → AdmissibleBytes N bytes ⊎ ((k : ℕ) × (route_check N bytes ≡ Refused (BadRide k)) × (AdmissibleBytes N bytes → ⊥))
-    go Good e = inl ((route_good N bytes).0 e)
-    go (Refused x) e = let k = bad x (only_bad_rides N bytes x e) in inr (k.0, e ∙ ap Refused k.1, λ a. refused_not_good (sym e ∙ (route_good N bytes).1 a))
+    go : (a : Judged) → route_check N bytes ≡ a → AdmissibleBytes N bytes ⊎ ((k : ℕ) × (route_check N bytes ≡ Err (BadRide k)) × (AdmissibleBytes N bytes → ⊥))
+    go (Ok _) e = inl ((route_good N bytes).0 e)
+    go (Err x) e = let k = bad x (only_bad_rides N bytes x e) in inr (k.0, e ∙ ap Err k.1, λ a. refused_not_good (sym e ∙ (route_good N bytes).1 a))

@@ -1,5 +1,7 @@
 -- What is refused and what is valid: each check of a book is good exactly where the part that it judges is valid.
 use Prim.Native.Nat.{ℕ, zero, suc, ◌+◌, ◌-◌, ◌*◌, ◌≤◌, ◌<◌}
+use Rattle.std.proofs.Common.{Ok, IsTrue}
+use Rattle.std.proofs.lemmas.List.{ext_get_or}
 use mathlib.Core.Path.{◌≡◌, refl, sym, ap, ap₂, ◌∙◌}
 use mathlib.Core.Bool.{Bool, true, false, not}
 use mathlib.Core.List.{List}
@@ -10,12 +12,13 @@ use lib.Dec.{leb, ltb, eqb}
 use borrow.Author.Tests.{leb-true, ltb-true, ltb-false, eqb-true, eqb-false, not-true, le-leb, lt-ltb, le-ltb, eq-eqb, ne_eqb}
 use Rattle.outline.specs.declared.Station.{Station}
 use Rattle.outline.specs.declared.Link.{Link}
-use Rattle.outline.specs.declared.Judged.TheVariants.{Good}
 use Rattle.outline.specs.Numbers.{most_fare, least_run, most_run, no_company}
 use Rattle.outline.specs.Tests.{both, either, choose, within, all_below}
-use Rattle.outline.specs.Fares.{Table, Rule, Fares, fare_at, table_at, company_at, in_map}
+use Rattle.outline.specs.declared.Rule.{Rule}
+use Rattle.outline.specs.Fares.{Table, Fares, fare_at, table_at, company_at, in_map}
 use Rattle.outline.specs.Network.{Network, network_of, same_station}
 use Rattle.outline.specs.Book.{offset_of, length_of, rules_entry, fares_of}
+use Rattle.outline.specs.Sheet.{link_numbers, link_in}
 use Rattle.outline.specs.Valid.{Header, CompanyBody, ListBody, LaidOut, GoodEntry, GoodTable, GoodLink, Once, GoodMap, GoodRule, GoodFares, ValidBook}
 use Rattle.outline.specs.Judging.{header_check, company_check, list_check, end_check, contents_check, good_entry, entry_check, row_check, table_check, tables_check, good_link, same_link, repeated, link_check, good_company, good_map, good_maps, good_rule, rule_check, fares_check, entry_offset, book_check}
 use Rattle.laws.proofs.Tests.{true_not_false, fails, both_true, both_holds, either_true, either_second, within_true, within_holds, all_true, all_holds, some_false, none_holds}
@@ -23,7 +26,7 @@ use Rattle.laws.proofs.Firsts.{demand_good, demand_holds, then_good, then_next, 
 
 -- ---- the header
 
-pub header_good : (b : List ℕ) → header_check b ≡ Good → Header b
+pub header_good : (b : List ℕ) → header_check b ≡ Ok tt → Header b
 unfolding header_check
 header_good b e =
     let s1 = demand_good _ _ _ e in
@@ -41,7 +44,7 @@ header_good b e =
       contents = leb-true _ _ s6.0;
     }
 
-pub header_holds : (b : List ℕ) → Header b → header_check b ≡ Good
+pub header_holds : (b : List ℕ) → Header b → header_check b ≡ Ok tt
 unfolding header_check
 header_holds b h =
     demand_holds _ _ _ (le-leb _ _ h.present)
@@ -53,7 +56,7 @@ header_holds b h =
 
 -- ---- the contents
 
-pub company_good : (b : List ℕ) (c : ℕ) → company_check b c ≡ Good → CompanyBody b c
+pub company_good : (b : List ℕ) (c : ℕ) → company_check b c ≡ Ok tt → CompanyBody b c
 unfolding company_check
 company_good b c e =
     let s1 = demand_good _ _ _ e in
@@ -67,7 +70,7 @@ company_good b c e =
       long = eqb-true _ _ s5.0;
     }
 
-pub company_holds : (b : List ℕ) (c : ℕ) → CompanyBody b c → company_check b c ≡ Good
+pub company_holds : (b : List ℕ) (c : ℕ) → CompanyBody b c → company_check b c ≡ Ok tt
 unfolding company_check
 company_holds b c h =
     let some : 0 < length_of b c = omega (arith, h.long) in
@@ -77,7 +80,7 @@ company_holds b c h =
     ∙ demand_holds _ _ _ (within_holds _ _ _ h.stations)
     ∙ demand_holds _ _ _ (eq-eqb _ _ h.long)
 
-pub list_good : (b : List ℕ) (e bytes : ℕ) → list_check b e bytes ≡ Good → ListBody b e bytes
+pub list_good : (b : List ℕ) (e bytes : ℕ) → list_check b e bytes ≡ Ok tt → ListBody b e bytes
 unfolding list_check
 list_good b e bytes p =
     let s1 = demand_good _ _ _ p in
@@ -88,22 +91,22 @@ list_good b e bytes p =
       long = eqb-true _ _ s3.0;
     }
 
-pub list_holds : (b : List ℕ) (e bytes : ℕ) → ListBody b e bytes → list_check b e bytes ≡ Good
+pub list_holds : (b : List ℕ) (e bytes : ℕ) → ListBody b e bytes → list_check b e bytes ≡ Ok tt
 unfolding list_check
 list_holds b e bytes h =
     demand_holds _ _ _ (eq-eqb _ _ h.body.follows)
     ∙ demand_holds _ _ _ (le-leb _ _ h.body.inside)
     ∙ demand_holds _ _ _ (eq-eqb _ _ h.long)
 
-pub end_good : (b : List ℕ) → end_check b ≡ Good → offset_of b (rules_entry b) + length_of b (rules_entry b) ≡ length b
+pub end_good : (b : List ℕ) → end_check b ≡ Ok tt → offset_of b (rules_entry b) + length_of b (rules_entry b) ≡ length b
 unfolding end_check
 end_good b e = eqb-true _ _ (demand_good _ _ _ e).0
 
-pub end_holds : (b : List ℕ) → offset_of b (rules_entry b) + length_of b (rules_entry b) ≡ length b → end_check b ≡ Good
+pub end_holds : (b : List ℕ) → offset_of b (rules_entry b) + length_of b (rules_entry b) ≡ length b → end_check b ≡ Ok tt
 unfolding end_check
 end_holds b h = demand_holds _ _ _ (eq-eqb _ _ h)
 
-pub contents_good : (b : List ℕ) → Header b → contents_check b ≡ Good → LaidOut b
+pub contents_good : (b : List ℕ) → Header b → contents_check b ≡ Ok tt → LaidOut b
 unfolding contents_check
 contents_good b h e =
     let s1 = then_good _ _ e in
@@ -117,7 +120,7 @@ contents_good b h e =
       ends = end_good b s3.1;
     }
 
-pub contents_holds : (b : List ℕ) → LaidOut b → contents_check b ≡ Good
+pub contents_holds : (b : List ℕ) → LaidOut b → contents_check b ≡ Ok tt
 unfolding contents_check
 contents_holds b h =
     then_next _ _ (first_holds (company_check b) _ (λ c l. company_holds b c (h.companies c l)))
@@ -144,27 +147,27 @@ entry_holds i j x h = go (eqb i j) refl
     go false p = le-leb _ _ h.small
 
 -- entry (i, j) and row i of a table, judged
-pub entry_judged_good : (place : ℕ → ℕ → ℕ) (t : Table) (i j : ℕ) → entry_check place t i j ≡ Good → GoodEntry i j (fare_at t i j)
+pub entry_judged_good : (place : ℕ → ℕ → ℕ) (t : Table) (i j : ℕ) → entry_check place t i j ≡ Ok tt → GoodEntry i j (fare_at t i j)
 unfolding entry_check
 entry_judged_good place t i j e = entry_good i j _ (demand_good _ _ _ e).0
 
-pub entry_judged_holds : (place : ℕ → ℕ → ℕ) (t : Table) (i j : ℕ) → GoodEntry i j (fare_at t i j) → entry_check place t i j ≡ Good
+pub entry_judged_holds : (place : ℕ → ℕ → ℕ) (t : Table) (i j : ℕ) → GoodEntry i j (fare_at t i j) → entry_check place t i j ≡ Ok tt
 unfolding entry_check
 entry_judged_holds place t i j g = demand_holds _ _ _ (entry_holds i j _ g)
 
-pub row_good : (place : ℕ → ℕ → ℕ) (t : Table) (i : ℕ) → row_check place t i ≡ Good → (j : ℕ) → j < t.stations → GoodEntry i j (fare_at t i j)
+pub row_good : (place : ℕ → ℕ → ℕ) (t : Table) (i : ℕ) → row_check place t i ≡ Ok tt → (j : ℕ) → j < t.stations → GoodEntry i j (fare_at t i j)
 unfolding row_check
 row_good place t i e j h = entry_judged_good place t i j (first_good (entry_check place t i) _ e j h)
 
-pub row_holds : (place : ℕ → ℕ → ℕ) (t : Table) (i : ℕ) → ((j : ℕ) → j < t.stations → GoodEntry i j (fare_at t i j)) → row_check place t i ≡ Good
+pub row_holds : (place : ℕ → ℕ → ℕ) (t : Table) (i : ℕ) → ((j : ℕ) → j < t.stations → GoodEntry i j (fare_at t i j)) → row_check place t i ≡ Ok tt
 unfolding row_check
 row_holds place t i g = first_holds (entry_check place t i) _ (λ j h. entry_judged_holds place t i j (g j h))
 
-pub table_good : (place : ℕ → ℕ → ℕ) (t : Table) → table_check place t ≡ Good → GoodTable t
+pub table_good : (place : ℕ → ℕ → ℕ) (t : Table) → table_check place t ≡ Ok tt → GoodTable t
 unfolding table_check
 table_good place t e i j h k = row_good place t i (first_good (row_check place t) _ e i h) j k
 
-pub table_holds : (place : ℕ → ℕ → ℕ) (t : Table) → GoodTable t → table_check place t ≡ Good
+pub table_holds : (place : ℕ → ℕ → ℕ) (t : Table) → GoodTable t → table_check place t ≡ Ok tt
 unfolding table_check
 table_holds place t g = first_holds (row_check place t) _ (λ i h. row_holds place t i (λ j k. g i j h k))
 
@@ -196,6 +199,22 @@ unfolding same_link
 same_link_holds x y e =
     both_holds _ _ (same_station_holds _ _ (ap (λ (l : Link). l.one) e)) (same_station_holds _ _ (ap (λ (l : Link). l.other) e))
 
+-- a test that holds exactly where the four numbers of two links are equal
+pub links_alike : (x y : List ℕ) → length x ≡ link_numbers → length y ≡ link_numbers → (t : Bool) → IsTrue t ↔ (x ≡ y) → t ≡ same_link (link_in x 0) (link_in y 0)
+unfolding link_in
+links_alike x y m n t h = go t refl
+  where
+    numbers : link_in x 0 ≡ link_in y 0 → (i : ℕ) → i < 4 → get_or x i 0 ≡ get_or y i 0
+    numbers e zero l = ap (λ (l : Link). l.one.company) e
+    numbers e (suc zero) l = ap (λ (l : Link). l.one.number) e
+    numbers e (suc (suc zero)) l = ap (λ (l : Link). l.other.company) e
+    numbers e (suc (suc (suc zero))) l = ap (λ (l : Link). l.other.number) e
+    numbers e (suc (suc (suc (suc i)))) l = absurd (omega arith)
+
+    go : (s : Bool) → t ≡ s → s ≡ same_link (link_in x 0) (link_in y 0)
+    go true e = sym (same_link_holds _ _ (ap (λ (s : List ℕ). link_in s 0) (h.0 e)))
+    go false e = sym (fails (λ q. true_not_false (sym (h.1 (ext_get_or 0 x y (m ∙ sym n) (λ i l. numbers (same_link_lem _ _ q) i (omega arith)))) ∙ e)))
+
 pub link_good : (N : Network) (l : Link) → good_link N l ≡ true → GoodLink N l
 unfolding good_link
 link_good N l e =
@@ -224,14 +243,14 @@ unfolding repeated
 once_holds N k h = none_holds _ k (λ j l. fails (λ e. h j l (same_link_lem _ _ e)))
 
 -- link k of the network, judged
-pub link_judged_good : (N : Network) (k : ℕ) → link_check N k ≡ Good → GoodLink N (N.link k) × Once N k
+pub link_judged_good : (N : Network) (k : ℕ) → link_check N k ≡ Ok tt → GoodLink N (N.link k) × Once N k
 unfolding link_check
 link_judged_good N k e =
     let s1 = demand_good _ _ _ e in
     let s2 = demand_good _ _ _ s1.1 in
     (link_good N _ s1.0, once_good N k (not-true _ s2.0))
 
-pub link_judged_holds : (N : Network) (k : ℕ) → GoodLink N (N.link k) → Once N k → link_check N k ≡ Good
+pub link_judged_holds : (N : Network) (k : ℕ) → GoodLink N (N.link k) → Once N k → link_check N k ≡ Ok tt
 unfolding link_check
 link_judged_holds N k h o =
     demand_holds _ _ _ (link_holds N _ h) ∙ demand_holds _ _ _ (ap not (once_holds N k o))
@@ -355,25 +374,25 @@ rule_holds N r g =
     (both_holds _ _ (map_holds _ _ g.alighting) (map_holds _ _ g.permitted)))))
 
 -- rule k of the network, judged
-pub rule_judged_good : (N : Network) (k : ℕ) → rule_check N k ≡ Good → GoodRule N (N.rule k)
+pub rule_judged_good : (N : Network) (k : ℕ) → rule_check N k ≡ Ok tt → GoodRule N (N.rule k)
 unfolding rule_check
 rule_judged_good N k e = rule_good N _ (demand_good _ _ _ e).0
 
-pub rule_judged_holds : (N : Network) (k : ℕ) → GoodRule N (N.rule k) → rule_check N k ≡ Good
+pub rule_judged_holds : (N : Network) (k : ℕ) → GoodRule N (N.rule k) → rule_check N k ≡ Ok tt
 unfolding rule_check
 rule_judged_holds N k g = demand_holds _ _ _ (rule_holds N _ g)
 
 -- ---- all of it
 
-pub tables_good : (place : ℕ → ℕ → ℕ → ℕ) (F : Fares) → tables_check place F ≡ Good → (c : ℕ) → c < length F.tables → GoodTable (table_at F c)
+pub tables_good : (place : ℕ → ℕ → ℕ → ℕ) (F : Fares) → tables_check place F ≡ Ok tt → (c : ℕ) → c < length F.tables → GoodTable (table_at F c)
 unfolding tables_check
 tables_good place F e c h = table_good (place c) (table_at F c) (first_good (λ c. table_check (place c) (table_at F c)) _ e c h)
 
-pub tables_holds : (place : ℕ → ℕ → ℕ → ℕ) (F : Fares) → ((c : ℕ) → c < length F.tables → GoodTable (table_at F c)) → tables_check place F ≡ Good
+pub tables_holds : (place : ℕ → ℕ → ℕ → ℕ) (F : Fares) → ((c : ℕ) → c < length F.tables → GoodTable (table_at F c)) → tables_check place F ≡ Ok tt
 unfolding tables_check
 tables_holds place F g = first_holds (λ c. table_check (place c) (table_at F c)) _ (λ c h. table_holds (place c) (table_at F c) (g c h))
 
-pub fares_good : (place : ℕ → ℕ → ℕ → ℕ) (F : Fares) → fares_check place F ≡ Good → GoodFares F
+pub fares_good : (place : ℕ → ℕ → ℕ → ℕ) (F : Fares) → fares_check place F ≡ Ok tt → GoodFares F
 unfolding fares_check
 fares_good place F e =
     let s1 = then_good _ _ e in
@@ -384,7 +403,7 @@ fares_good place F e =
       rules = λ k h. rule_judged_good (network_of F) k (first_good (rule_check (network_of F)) _ s2.1 k h);
     }
 
-pub fares_holds : (place : ℕ → ℕ → ℕ → ℕ) (F : Fares) → GoodFares F → fares_check place F ≡ Good
+pub fares_holds : (place : ℕ → ℕ → ℕ → ℕ) (F : Fares) → GoodFares F → fares_check place F ≡ Ok tt
 unfolding fares_check
 fares_holds place F g =
     then_next _ _ (tables_holds place F g.tables)
@@ -392,17 +411,17 @@ fares_holds place F g =
     ∙ first_holds (rule_check (network_of F)) _ (λ k h. rule_judged_holds (network_of F) k (g.rules k h))
 
 -- A book is refused exactly where it is not valid.
-pub book_good : (b : List ℕ) → (book_check b ≡ Good) ↔ ValidBook b
+pub book_good : (b : List ℕ) → (book_check b ≡ Ok tt) ↔ ValidBook b
 unfolding book_check
 book_good b = (valid, good)
   where
-    valid : book_check b ≡ Good → ValidBook b
+    valid : book_check b ≡ Ok tt → ValidBook b
     valid e =
         let s1 = then_good _ _ e in
         let s2 = then_good _ _ s1.1 in
         record { laid_out = contents_good b (header_good b s1.0) s2.0; fares = fares_good (entry_offset b) (fares_of b) s2.1 }
 
-    good : ValidBook b → book_check b ≡ Good
+    good : ValidBook b → book_check b ≡ Ok tt
     good v =
         then_next _ _ (header_holds b v.laid_out.header)
         ∙ then_next _ _ (contents_holds b v.laid_out)

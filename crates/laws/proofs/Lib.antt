@@ -14,3 +14,4 @@ pub mod Admissible
 pub mod GivenRoutes
 pub mod Matching
 pub mod Sheet
+pub mod Chains

@@ -1,6 +1,7 @@
 -- The first refusal is the one named, with its place: for each refusal of a book, what a book is that is refused with it, told by the
 -- parts of a valid book and not by the checks.
 use Prim.Native.Nat.{ℕ, ◌+◌, ◌*◌, ◌≤◌, ◌<◌}
+use Rattle.std.proofs.Common.{Ok, Err}
 use mathlib.Core.Path.{◌≡◌, refl, sym, ap, ◌∙◌}
 use mathlib.Core.Bool.{Bool, true}
 use mathlib.Core.List.{List}
@@ -12,11 +13,9 @@ use lib.Dec.{leb, ltb, eqb}
 use borrow.Author.Tests.{leb-true, ltb-true, eqb-true, le-leb, lt-ltb, eq-eqb}
 use Rattle.outline.specs.declared.Refusal.{Refusal}
 use Rattle.outline.specs.declared.Refusal.TheVariants.{WrongLength, UnknownLayout, OutsideLimits, BadContents, BadStations, BadEntry, BadLink, BadRule}
-use Rattle.outline.specs.declared.Judged.{Judged}
-use Rattle.outline.specs.declared.Judged.TheVariants.{Good, Refused}
 use Rattle.outline.specs.Numbers.{most_companies, least_stations, most_stations, most_links, most_rules}
 use Rattle.outline.specs.Tests.{both, within, Within}
-use Rattle.outline.specs.Refusals.{demand, ◌and_then◌, first_below, number_of, place_of}
+use Rattle.outline.specs.Refusals.{demand, ◌and_then◌, first_below, number_of, place_of, Judged}
 use Rattle.outline.specs.Fares.{Table, Fares, fare_at, table_at}
 use Rattle.outline.specs.Network.{Network, network_of}
 use Rattle.outline.specs.Book.{layout_number, company_count, link_count, rule_count, header_length, offset_of, length_of, links_entry, rules_entry, first_body, end_before, body_of, company_length, station_count, link_length, rule_length, fares_of, network}
@@ -194,7 +193,7 @@ fares_numbers place F =
     (wider 7 8 6 8 _ (omega arith) (omega arith) (lists_numbers (network_of F)))
 
 -- A book's refusal is one of the first eight.
-pub book_numbers : (b : List ℕ) (x : Refusal) → book_check b ≡ Refused x → Within 1 (number_of x) 8
+pub book_numbers : (b : List ℕ) (x : Refusal) → book_check b ≡ Err x → Within 1 (number_of x) 8
 unfolding book_check
 book_numbers b =
     names_then (Between 1 8) _ _
@@ -206,29 +205,29 @@ book_numbers b =
 -- ---- the stages, each passed by a refusal of a later one
 
 header_passed : (b : List ℕ) (next : Judged) (x : Refusal) → 4 ≤ number_of x
-    → (header_check b and_then next ≡ Refused x) ↔ (Header b × (next ≡ Refused x))
+    → (header_check b and_then next ≡ Err x) ↔ (Header b × (next ≡ Err x))
 header_passed b next x l =
     then_passes (header_check b) next x (λ r. let w = header_numbers b x r in omega arith) (header_good b, header_holds b)
 
 contents_passed : (b : List ℕ) → Header b → (next : Judged) (x : Refusal) → 6 ≤ number_of x
-    → (contents_check b and_then next ≡ Refused x) ↔ (LaidOut b × (next ≡ Refused x))
+    → (contents_check b and_then next ≡ Err x) ↔ (LaidOut b × (next ≡ Err x))
 contents_passed b h next x l =
     then_passes (contents_check b) next x (λ r. let w = contents_numbers b x r in omega arith) (contents_good b h, contents_holds b)
 
 tables_passed : (place : ℕ → ℕ → ℕ → ℕ) (F : Fares) (next : Judged) (x : Refusal) → 7 ≤ number_of x
-    → (tables_check place F and_then next ≡ Refused x) ↔ (GoodTables F × (next ≡ Refused x))
+    → (tables_check place F and_then next ≡ Err x) ↔ (GoodTables F × (next ≡ Err x))
 tables_passed place F next x l =
     then_passes (tables_check place F) next x (λ r. let w = tables_numbers place F x r in omega arith) (tables_good place F, tables_holds place F)
 
 links_passed : (N : Network) (next : Judged) (x : Refusal) → 8 ≤ number_of x
-    → (first_below (link_check N) N.links and_then next ≡ Refused x) ↔ (GoodLinks N × (next ≡ Refused x))
+    → (first_below (link_check N) N.links and_then next ≡ Err x) ↔ (GoodLinks N × (next ≡ Err x))
 links_passed N next x l =
     then_passes _ next x (λ r. let w = links_numbers N N.links x r in omega arith)
     (λ e k h. link_judged_good N k (first_good (link_check N) _ e k h), λ g. first_holds (link_check N) _ (λ k h. link_judged_holds N k (g k h).0 (g k h).1))
 
 -- a book refused with one of 1 to 3, with 4 or 5, with one of 6 to 8
 
-header_refused : (b : List ℕ) (x : Refusal) → number_of x ≤ 3 → (book_check b ≡ Refused x) ↔ (header_check b ≡ Refused x)
+header_refused : (b : List ℕ) (x : Refusal) → number_of x ≤ 3 → (book_check b ≡ Err x) ↔ (header_check b ≡ Err x)
 unfolding book_check
 header_refused b x h =
     then_stays _ _ x
@@ -237,14 +236,14 @@ header_refused b x h =
     (wider 6 8 4 8 _ (omega arith) (omega arith) (fares_numbers (entry_offset b) (fares_of b))) x r in omega arith)
 
 contents_refused : (b : List ℕ) (x : Refusal) → 4 ≤ number_of x → number_of x ≤ 5
-    → (book_check b ≡ Refused x) ↔ (Header b × (contents_check b ≡ Refused x))
+    → (book_check b ≡ Err x) ↔ (Header b × (contents_check b ≡ Err x))
 unfolding book_check
 contents_refused b x l h =
     Iff.trans (header_passed b _ x l)
     (Iff.and Iff.rfl (then_stays (contents_check b) _ x (λ r. let w = fares_numbers (entry_offset b) (fares_of b) x r in omega arith)))
 
 fares_refused : (b : List ℕ) (x : Refusal) → 6 ≤ number_of x
-    → (book_check b ≡ Refused x) ↔ (LaidOut b × (fares_check (entry_offset b) (fares_of b) ≡ Refused x))
+    → (book_check b ≡ Err x) ↔ (LaidOut b × (fares_check (entry_offset b) (fares_of b) ≡ Err x))
 unfolding book_check
 fares_refused b x l =
     let first = header_passed b (contents_check b and_then fares_check (entry_offset b) (fares_of b)) x (omega arith) in (
@@ -262,12 +261,12 @@ four : {A B C D : Type 0} → (A × (B × C × D)) ↔ (A × B × C × D)
 four = (λ h. (h.0, h.1.0, h.1.1, h.1.2), λ h. (h.0, (h.1, h.2, h.3)))
 
 -- the entry that a table's check names: its row and column
-table_bad_entry : (place : ℕ → ℕ → ℕ) (t : Table) (p : ℕ) → (table_check place t ≡ Refused (BadEntry p))
+table_bad_entry : (place : ℕ → ℕ → ℕ) (t : Table) (p : ℕ) → (table_check place t ≡ Err (BadEntry p))
     ↔ ((i : ℕ) × (j : ℕ) × (p ≡ place i j) × FirstBadIn t i j)
 unfolding table_check row_check
 table_bad_entry place t p = (found, first)
   where
-    found : table_check place t ≡ Refused (BadEntry p) → (i : ℕ) × (j : ℕ) × (p ≡ place i j) × FirstBadIn t i j
+    found : table_check place t ≡ Err (BadEntry p) → (i : ℕ) × (j : ℕ) × (p ≡ place i j) × FirstBadIn t i j
     found e =
         let (i, hi, above, e₁) = (first_names (row_check place t) t.stations (BadEntry p)).0 e in
         let (j, hj, left, e₂) = (first_names (entry_check place t i) t.stations (BadEntry p)).0 e₁ in
@@ -284,37 +283,37 @@ table_bad_entry place t p = (found, first)
           },
         )
 
-    first : (i : ℕ) × (j : ℕ) × (p ≡ place i j) × FirstBadIn t i j → table_check place t ≡ Refused (BadEntry p)
+    first : (i : ℕ) × (j : ℕ) × (p ≡ place i j) × FirstBadIn t i j → table_check place t ≡ Err (BadEntry p)
     first (i, j, q, f) =
-        let here : entry_check place t i j ≡ Refused (BadEntry (place i j)) =
+        let here : entry_check place t i j ≡ Err (BadEntry (place i j)) =
         (refused_with _ _ (entry_names (λ x. x ≡ BadEntry (place i j)) place t i j refl) (entry_judged_good place t i j, entry_judged_holds place t i j)).1 f.bad in
-        let there : entry_check place t i j ≡ Refused (BadEntry p) = here ∙ ap (λ (m : ℕ). Refused (BadEntry m)) (sym q) in
+        let there : entry_check place t i j ≡ Err (BadEntry p) = here ∙ ap (λ (m : ℕ). Err (BadEntry m)) (sym q) in
         let row = (first_names (entry_check place t i) t.stations (BadEntry p)).1 (j, f.column, λ l h. entry_judged_holds place t i l (f.columns l h), there) in
         (first_names (row_check place t) t.stations (BadEntry p)).1 (i, f.row, λ k h. row_holds place t k (λ l g. f.rows k l h g), row)
 
 -- the place of the first bad entry is named
-pub fares_bad_entry : (place : ℕ → ℕ → ℕ → ℕ) (F : Fares) (p : ℕ) → (fares_check place F ≡ Refused (BadEntry p))
+pub fares_bad_entry : (place : ℕ → ℕ → ℕ → ℕ) (F : Fares) (p : ℕ) → (fares_check place F ≡ Err (BadEntry p))
     ↔ ((c : ℕ) × (i : ℕ) × (j : ℕ) × (p ≡ place c i j) × FirstBadEntry F c i j)
 unfolding fares_check tables_check
 fares_bad_entry place F p = (found, first)
   where
-    tables : (fares_check place F ≡ Refused (BadEntry p)) ↔ (tables_check place F ≡ Refused (BadEntry p))
+    tables : (fares_check place F ≡ Err (BadEntry p)) ↔ (tables_check place F ≡ Err (BadEntry p))
     tables = then_stays _ _ (BadEntry p) (λ r. let w = lists_numbers (network_of F) _ r in omega arith)
 
-    found : fares_check place F ≡ Refused (BadEntry p) → (c : ℕ) × (i : ℕ) × (j : ℕ) × (p ≡ place c i j) × FirstBadEntry F c i j
+    found : fares_check place F ≡ Err (BadEntry p) → (c : ℕ) × (i : ℕ) × (j : ℕ) × (p ≡ place c i j) × FirstBadEntry F c i j
     found e =
         let (c, h, before, here) = (first_names (λ c. table_check (place c) (table_at F c)) (length F.tables) (BadEntry p)).0 (tables.0 e) in
         let (i, j, q, f) = (table_bad_entry (place c) (table_at F c) p).0 here in
         (c, i, j, q, record { company = h; companies = λ d l. table_good (place d) (table_at F d) (before d l); entry = f })
 
-    first : (c : ℕ) × (i : ℕ) × (j : ℕ) × (p ≡ place c i j) × FirstBadEntry F c i j → fares_check place F ≡ Refused (BadEntry p)
+    first : (c : ℕ) × (i : ℕ) × (j : ℕ) × (p ≡ place c i j) × FirstBadEntry F c i j → fares_check place F ≡ Err (BadEntry p)
     first (c, i, j, q, f) =
         tables.1
         ((first_names (λ c. table_check (place c) (table_at F c)) (length F.tables) (BadEntry p)).1
         (c, f.company, λ d l. table_holds (place d) (table_at F d) (f.companies d l), (table_bad_entry (place c) (table_at F c) p).1 (i, j, q, f.entry)))
 
 pub fares_bad_link : (place : ℕ → ℕ → ℕ → ℕ) (F : Fares) (k : ℕ)
-    → (fares_check place F ≡ Refused (BadLink k)) ↔ (GoodTables F × FirstBad (LinkHolds (network_of F)) (network_of F).links k)
+    → (fares_check place F ≡ Err (BadLink k)) ↔ (GoodTables F × FirstBad (LinkHolds (network_of F)) (network_of F).links k)
 unfolding fares_check
 fares_bad_link place F k =
     let N = network_of F in
@@ -325,7 +324,7 @@ fares_bad_link place F k =
     (λ j. (link_judged_good N j, λ h. link_judged_holds N j h.0 h.1)))))
 
 pub fares_bad_rule : (place : ℕ → ℕ → ℕ → ℕ) (F : Fares) (k : ℕ)
-    → (fares_check place F ≡ Refused (BadRule k))
+    → (fares_check place F ≡ Err (BadRule k))
     ↔ (GoodTables F × GoodLinks (network_of F) × FirstBad (RuleHolds (network_of F)) (network_of F).rules k)
 unfolding fares_check
 fares_bad_rule place F k =
@@ -341,17 +340,17 @@ fares_bad_rule place F k =
 
 -- ---- the theorems: 6 to 8
 
-pub bad_entry : (b : List ℕ) (p : ℕ) → (book_check b ≡ Refused (BadEntry p))
+pub bad_entry : (b : List ℕ) (p : ℕ) → (book_check b ≡ Err (BadEntry p))
     ↔ (LaidOut b × ((c : ℕ) × (i : ℕ) × (j : ℕ) × (p ≡ entry_offset b c i j) × FirstBadEntry (fares_of b) c i j))
 bad_entry b p = Iff.trans (fares_refused b (BadEntry p) (omega arith)) (Iff.and Iff.rfl (fares_bad_entry (entry_offset b) (fares_of b) p))
 
-pub bad_link : (b : List ℕ) (k : ℕ) → (book_check b ≡ Refused (BadLink k))
+pub bad_link : (b : List ℕ) (k : ℕ) → (book_check b ≡ Err (BadLink k))
     ↔ (LaidOut b × GoodTables (fares_of b) × FirstBad (LinkHolds (network b)) (network b).links k)
 unfolding network
 bad_link b k =
     Iff.trans (fares_refused b (BadLink k) (omega arith)) (Iff.trans (Iff.and Iff.rfl (fares_bad_link (entry_offset b) (fares_of b) k)) three)
 
-pub bad_rule : (b : List ℕ) (k : ℕ) → (book_check b ≡ Refused (BadRule k))
+pub bad_rule : (b : List ℕ) (k : ℕ) → (book_check b ≡ Err (BadRule k))
     ↔ (LaidOut b × GoodTables (fares_of b) × GoodLinks (network b) × FirstBad (RuleHolds (network b)) (network b).rules k)
 unfolding network
 bad_rule b k =
@@ -370,7 +369,7 @@ abbrev stations_then_length : List ℕ → ℕ → Judged
 stations_then_length b c =
     demand (within least_stations (station_count (body_of b c)) most_stations) (BadStations c)
     (demand (eqb (length_of b c) (company_length (station_count (body_of b c)))) (BadContents c)
-    Good)
+    (Ok tt))
 
 company_regrouped : (b : List ℕ) (c : ℕ) → company_check b c ≡ demand (placed_test b c) (BadContents c) (stations_then_length b c)
 unfolding company_check
@@ -398,10 +397,10 @@ length-test b c = (eqb-true _ _, eq-eqb _ _)
 different : {x y : Refusal} → (number_of x ≡ number_of y → ⊥) → x ≡ y → ⊥
 different n e = n (ap number_of e)
 
-good_not_refused : {x : Refusal} → Good ≡ Refused x → ⊥
+good_not_refused : {x : Refusal} → ◌≡◌ {A = Judged} (Ok tt) (Err x) → ⊥
 good_not_refused e = refused_not_good (sym e)
 
-company_bad_stations : (b : List ℕ) (c : ℕ) → (company_check b c ≡ Refused (BadStations c)) ↔ BadStationsAt b c
+company_bad_stations : (b : List ℕ) (c : ℕ) → (company_check b c ≡ Err (BadStations c)) ↔ BadStationsAt b c
 company_bad_stations b c =
     Iff.trans (regrouped (company_regrouped b c))
     (Iff.trans (demand_passes (placed_test b c) _ _ (BadStations c) (different (omega arith)) (placed_test_lem b c))
@@ -410,56 +409,56 @@ company_bad_stations b c =
     (λ r. good_not_refused ((demand_passes _ (BadContents c) _ (BadStations c) (different (omega arith)) (length-test b c)).0 r).1)
     (stations_test b c))))
 
-company_bad_contents : (b : List ℕ) (c : ℕ) → (company_check b c ≡ Refused (BadContents c)) ↔ BadContentsAt b c
+company_bad_contents : (b : List ℕ) (c : ℕ) → (company_check b c ≡ Err (BadContents c)) ↔ BadContentsAt b c
 company_bad_contents b c = (found, first)
   where
-    outer : (company_check b c ≡ Refused (BadContents c))
-        ↔ (((Placed b c → ⊥) × (BadContents c ≡ BadContents c)) ⊎ (Placed b c × (stations_then_length b c ≡ Refused (BadContents c))))
+    outer : (company_check b c ≡ Err (BadContents c))
+        ↔ (((Placed b c → ⊥) × (BadContents c ≡ BadContents c)) ⊎ (Placed b c × (stations_then_length b c ≡ Err (BadContents c))))
     outer = Iff.trans (regrouped (company_regrouped b c)) (demand_refused (placed_test b c) _ _ (BadContents c) (placed_test_lem b c))
 
-    inner : (stations_then_length b c ≡ Refused (BadContents c)) ↔ (StationsHold b c × (LengthHolds b c → ⊥))
+    inner : (stations_then_length b c ≡ Err (BadContents c)) ↔ (StationsHold b c × (LengthHolds b c → ⊥))
     inner =
         Iff.trans (demand_passes _ _ _ (BadContents c) (different (omega arith)) (stations_test b c))
-        (Iff.and Iff.rfl (demand_stays _ (BadContents c) Good good_not_refused (length-test b c)))
+        (Iff.and Iff.rfl (demand_stays _ (BadContents c) (Ok tt) good_not_refused (length-test b c)))
 
-    found : company_check b c ≡ Refused (BadContents c) → BadContentsAt b c
+    found : company_check b c ≡ Err (BadContents c) → BadContentsAt b c
     found e = ⊎_elim (λ f. inl f.0) (λ h. let s = inner.0 h.1 in inr (h.0, s.0, s.1)) (outer.0 e)
 
-    first : BadContentsAt b c → company_check b c ≡ Refused (BadContents c)
+    first : BadContentsAt b c → company_check b c ≡ Err (BadContents c)
     first (inl f) = outer.1 (inl (f, refl))
     first (inr h) = outer.1 (inr (h.0, inner.1 (h.1, h.2)))
 
 -- all companies, and the first that is wrong
-companies_hold : (b : List ℕ) → (first_below (company_check b) (company_count b) ≡ Good) ↔ CompaniesHold b
+companies_hold : (b : List ℕ) → (first_below (company_check b) (company_count b) ≡ Ok tt) ↔ CompaniesHold b
 companies_hold b =
     (λ e c h. company_good b c (first_good (company_check b) _ e c h), λ g. first_holds (company_check b) _ (λ c h. company_holds b c (g c h)))
 
-first_wrong : (b : List ℕ) (c : ℕ) (y : Refusal) (W : Type 0) → place_of y ≡ c → (company_check b c ≡ Refused y) ↔ W
-    → (first_below (company_check b) (company_count b) ≡ Refused y) ↔ FirstWrong b c W
+first_wrong : (b : List ℕ) (c : ℕ) (y : Refusal) (W : Type 0) → place_of y ≡ c → (company_check b c ≡ Err y) ↔ W
+    → (first_below (company_check b) (company_count b) ≡ Err y) ↔ FirstWrong b c W
 first_wrong b c y W q w = (found, first)
   where
-    found : first_below (company_check b) (company_count b) ≡ Refused y → FirstWrong b c W
+    found : first_below (company_check b) (company_count b) ≡ Err y → FirstWrong b c W
     found e =
         let h = rw q at ((first_at_lem (company_check b) (company_count b) (λ k. company_names (λ x. place_of x ≡ k) b k refl refl) y).0 e) in
         record { below = h.0; before = λ d l. company_good b d (h.1 d l); wrong = w.0 h.2 }
 
-    first : FirstWrong b c W → first_below (company_check b) (company_count b) ≡ Refused y
+    first : FirstWrong b c W → first_below (company_check b) (company_count b) ≡ Err y
     first f = (first_names (company_check b) (company_count b) y).1 (c, f.below, λ d l. company_holds b d (f.before d l), w.1 f.wrong)
 
 -- the links' entry, and the rules' with the book's end
 
 -- a check that names entry `at` alone
-entry_wrong : {P : Type 0} (a : Judged) (at e : ℕ) → Names (λ y. y ≡ BadContents at) a → (a ≡ Good) ↔ P
-    → (a ≡ Refused (BadContents e)) ↔ ((e ≡ at) × (P → ⊥))
-entry_wrong {P} a at e o p = (found, λ h. (refused_with a (BadContents at) o p).1 h.1 ∙ ap (λ (m : ℕ). Refused (BadContents m)) (sym h.0))
+entry_wrong : {P : Type 0} (a : Judged) (at e : ℕ) → Names (λ y. y ≡ BadContents at) a → (a ≡ Ok tt) ↔ P
+    → (a ≡ Err (BadContents e)) ↔ ((e ≡ at) × (P → ⊥))
+entry_wrong {P} a at e o p = (found, λ h. (refused_with a (BadContents at) o p).1 h.1 ∙ ap (λ (m : ℕ). Err (BadContents m)) (sym h.0))
   where
-    found : a ≡ Refused (BadContents e) → (e ≡ at) × (P → ⊥)
+    found : a ≡ Err (BadContents e) → (e ≡ at) × (P → ⊥)
     found r = let q = o _ r in (cc, λ h. refused_not_good (sym r ∙ p.1 h))
 
-links_hold : (b : List ℕ) → (list_check b (links_entry b) (link_length * link_count b) ≡ Good) ↔ LinksHold b
+links_hold : (b : List ℕ) → (list_check b (links_entry b) (link_length * link_count b) ≡ Ok tt) ↔ LinksHold b
 links_hold b = (list_good b _ _, list_holds b _ _)
 
-rules_hold : (b : List ℕ) → (list_check b (rules_entry b) (rule_length * rule_count b) and_then end_check b ≡ Good) ↔ RulesHold b
+rules_hold : (b : List ℕ) → (list_check b (rules_entry b) (rule_length * rule_count b) and_then end_check b ≡ Ok tt) ↔ RulesHold b
 rules_hold b = (
   λ e. let s = then_good _ _ e in record { rules = list_good b _ _ s.0; ends = end_good b s.1 },
   λ h. then_next _ _ (list_holds b _ _ h.rules) ∙ end_holds b h.ends,
@@ -471,34 +470,34 @@ rules_names Q b p = names_then Q _ _ (list_names Q b (rules_entry b) _ p) (end_n
 
 -- ---- the theorems: 4 and 5
 
-pub bad_stations : (b : List ℕ) (c : ℕ) → (book_check b ≡ Refused (BadStations c)) ↔ (Header b × FirstWrong b c (BadStationsAt b c))
+pub bad_stations : (b : List ℕ) (c : ℕ) → (book_check b ≡ Err (BadStations c)) ↔ (Header b × FirstWrong b c (BadStationsAt b c))
 unfolding contents_check
 bad_stations b c =
     Iff.trans (contents_refused b (BadStations c) (omega arith) (omega arith))
     (Iff.and Iff.rfl
     (Iff.trans (then_stays _ _ (BadStations c) after) (first_wrong b c (BadStations c) (BadStationsAt b c) refl (company_bad_stations b c))))
   where
-    after : list_check b (links_entry b) (link_length * link_count b) and_then (list_check b (rules_entry b) (rule_length * rule_count b) and_then end_check b) ≡ Refused (BadStations c) → ⊥
+    after : list_check b (links_entry b) (link_length * link_count b) and_then (list_check b (rules_entry b) (rule_length * rule_count b) and_then end_check b) ≡ Err (BadStations c) → ⊥
     after r =
         let w = names_then (Between 4 4) _ _ (list_names (Between 4 4) b (links_entry b) _ (omega arith)) (rules_names (Between 4 4) b (omega arith)) (BadStations c) r in
         omega arith
 
-pub bad_contents : (b : List ℕ) (e : ℕ) → (book_check b ≡ Refused (BadContents e)) ↔ (Header b × WrongEntry b e)
+pub bad_contents : (b : List ℕ) (e : ℕ) → (book_check b ≡ Err (BadContents e)) ↔ (Header b × WrongEntry b e)
 unfolding contents_check
 bad_contents b e =
     Iff.trans (contents_refused b (BadContents e) (omega arith) (omega arith)) (Iff.and Iff.rfl (found, first))
   where
-    companies : (first_below (company_check b) (company_count b) ≡ Refused (BadContents e)) ↔ FirstWrong b e (BadContentsAt b e)
+    companies : (first_below (company_check b) (company_count b) ≡ Err (BadContents e)) ↔ FirstWrong b e (BadContentsAt b e)
     companies = first_wrong b e (BadContents e) (BadContentsAt b e) refl (company_bad_contents b e)
 
-    links : (list_check b (links_entry b) (link_length * link_count b) ≡ Refused (BadContents e)) ↔ ((e ≡ links_entry b) × (LinksHold b → ⊥))
+    links : (list_check b (links_entry b) (link_length * link_count b) ≡ Err (BadContents e)) ↔ ((e ≡ links_entry b) × (LinksHold b → ⊥))
     links = entry_wrong _ (links_entry b) e (list_names (λ x. x ≡ BadContents (links_entry b)) b (links_entry b) _ refl) (links_hold b)
 
-    rules : (list_check b (rules_entry b) (rule_length * rule_count b) and_then end_check b ≡ Refused (BadContents e))
+    rules : (list_check b (rules_entry b) (rule_length * rule_count b) and_then end_check b ≡ Err (BadContents e))
         ↔ ((e ≡ rules_entry b) × (RulesHold b → ⊥))
     rules = entry_wrong _ (rules_entry b) e (rules_names (λ x. x ≡ BadContents (rules_entry b)) b refl) (rules_hold b)
 
-    found : contents_check b ≡ Refused (BadContents e) → WrongEntry b e
+    found : contents_check b ≡ Err (BadContents e) → WrongEntry b e
     found r =
         ⊎_elim
         (λ f. inl (companies.0 f))
@@ -509,7 +508,7 @@ bad_contents b e =
         ((then_names _ _ _ (links_hold b)).0 s.1))
         ((then_names _ _ _ (companies_hold b)).0 r)
 
-    first : WrongEntry b e → contents_check b ≡ Refused (BadContents e)
+    first : WrongEntry b e → contents_check b ≡ Err (BadContents e)
     first (inl f) = (then_names _ _ _ (companies_hold b)).1 (inl (companies.1 f))
     first (inr (inl h)) =
         (then_names _ _ _ (companies_hold b)).1 (inr (h.1, (then_names _ _ _ (links_hold b)).1 (inl (links.1 (h.0, h.2)))))
@@ -523,7 +522,7 @@ limits_test b = both (within 1 (company_count b) most_companies) (both (leb (lin
 
 -- the header's check, with its three limits taken together
 abbrev limits_then_contents : List ℕ → Judged
-limits_then_contents b = demand (limits_test b) OutsideLimits (demand (leb (first_body b) (length b)) WrongLength Good)
+limits_then_contents b = demand (limits_test b) OutsideLimits (demand (leb (first_body b) (length b)) WrongLength (Ok tt))
 
 limits_names : (Q : Refusal → Type 0) (b : List ℕ) → Q OutsideLimits → Q WrongLength → Names Q (limits_then_contents b)
 limits_names Q b p q = names_demand Q _ OutsideLimits _ p (names_demand Q _ WrongLength _ q (names_good Q))
@@ -553,7 +552,7 @@ contents_test b = (leb-true _ _, le-leb _ _)
 
 -- ---- the theorems: 1 to 3
 
-pub unknown_layout : (b : List ℕ) → (book_check b ≡ Refused UnknownLayout) ↔ ((header_length ≤ length b) × (layout_number b ≡ 1 → ⊥))
+pub unknown_layout : (b : List ℕ) → (book_check b ≡ Err UnknownLayout) ↔ ((header_length ≤ length b) × (layout_number b ≡ 1 → ⊥))
 unknown_layout b =
     Iff.trans (header_refused b UnknownLayout (omega arith))
     (Iff.trans (regrouped (header_regrouped b))
@@ -562,7 +561,7 @@ unknown_layout b =
     (λ r. limits_names (λ x. x ≡ UnknownLayout → ⊥) b (different (omega arith)) (different (omega arith)) UnknownLayout r refl)
     (layout_test b)))))
 
-pub outside_limits : (b : List ℕ) → (book_check b ≡ Refused OutsideLimits)
+pub outside_limits : (b : List ℕ) → (book_check b ≡ Err OutsideLimits)
     ↔ ((header_length ≤ length b) × (layout_number b ≡ 1) × (Limits b → ⊥))
 outside_limits b =
     Iff.trans (header_refused b OutsideLimits (omega arith))
@@ -578,19 +577,19 @@ outside_limits b =
     three)))
 
 -- "fewer than 4 bytes is 1; .. contents cut is 1"
-pub wrong_length : (b : List ℕ) → (book_check b ≡ Refused WrongLength)
+pub wrong_length : (b : List ℕ) → (book_check b ≡ Err WrongLength)
     ↔ ((length b < header_length) ⊎ ((header_length ≤ length b) × (layout_number b ≡ 1) × Limits b × (length b < first_body b)))
 wrong_length b = Iff.trans (header_refused b WrongLength (omega arith)) (Iff.trans (regrouped (header_regrouped b)) (found, first))
   where
-    rest : (demand (eqb (layout_number b) 1) UnknownLayout (limits_then_contents b) ≡ Refused WrongLength)
+    rest : (demand (eqb (layout_number b) 1) UnknownLayout (limits_then_contents b) ≡ Err WrongLength)
         ↔ ((layout_number b ≡ 1) × (Limits b × (first_body b ≤ length b → ⊥)))
     rest =
         Iff.trans (demand_passes _ _ _ WrongLength (different (omega arith)) (layout_test b))
         (Iff.and Iff.rfl
         (Iff.trans (demand_passes _ _ _ WrongLength (different (omega arith)) (limits_test_lem b))
-        (Iff.and Iff.rfl (demand_stays _ WrongLength Good good_not_refused (contents_test b)))))
+        (Iff.and Iff.rfl (demand_stays _ WrongLength (Ok tt) good_not_refused (contents_test b)))))
 
-    found : demand (leb header_length (length b)) WrongLength (demand (eqb (layout_number b) 1) UnknownLayout (limits_then_contents b)) ≡ Refused WrongLength
+    found : demand (leb header_length (length b)) WrongLength (demand (eqb (layout_number b) 1) UnknownLayout (limits_then_contents b)) ≡ Err WrongLength
         → (length b < header_length) ⊎ ((header_length ≤ length b) × (layout_number b ≡ 1) × Limits b × (length b < first_body b))
     found r =
         ⊎_elim
@@ -599,7 +598,7 @@ wrong_length b = Iff.trans (header_refused b WrongLength (omega arith)) (Iff.tra
         ((demand_refused _ _ _ WrongLength (present_test b)).0 r)
 
     first : (length b < header_length) ⊎ ((header_length ≤ length b) × (layout_number b ≡ 1) × Limits b × (length b < first_body b))
-        → demand (leb header_length (length b)) WrongLength (demand (eqb (layout_number b) 1) UnknownLayout (limits_then_contents b)) ≡ Refused WrongLength
+        → demand (leb header_length (length b)) WrongLength (demand (eqb (layout_number b) 1) UnknownLayout (limits_then_contents b)) ≡ Err WrongLength
     first (inl l) = (demand_refused _ _ _ WrongLength (present_test b)).1 (inl (λ h. omega arith, refl))
     first (inr h) =
         let l = h.3 in
@@ -609,8 +608,8 @@ wrong_length b = Iff.trans (header_refused b WrongLength (omega arith)) (Iff.tra
 
 -- x is the refusal of the book, the only one, and one of the first eight
 pub record RefusedWith (b : List ℕ) (x : Refusal) : Type 0 where
-  pub named : book_check b ≡ Refused x
-  pub only : (y : Refusal) → book_check b ≡ Refused y → x ≡ y
+  pub named : book_check b ≡ Err x
+  pub only : (y : Refusal) → book_check b ≡ Err y → x ≡ y
   pub number : Within 1 (number_of x) 8
   pub invalid : ValidBook b → ⊥
 
@@ -618,8 +617,8 @@ pub valid_or_refused : (b : List ℕ) → ValidBook b ⊎ ((x : Refusal) × Refu
 valid_or_refused b = go (book_check b) refl
   where
     go : (a : Judged) → book_check b ≡ a → ValidBook b ⊎ ((x : Refusal) × RefusedWith b x)
-    go Good e = inl ((book_good b).0 e)
-    go (Refused x) e =
+    go (Ok _) e = inl ((book_good b).0 e)
+    go (Err x) e =
         inr (
           x,
           record {

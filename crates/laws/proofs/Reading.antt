@@ -7,9 +7,9 @@ use native.Mathlib.Numerals.{add-one}
 use native.Mathlib.Omega.{arith}
 use lib.ListN.{length, get_or, take, drop, length-take, length-drop}
 use lib.Seq.{get_or-drop, get_or-take, take-add, drop-drop, drop-cons}
-use Rattle.outline.specs.declared.Entry.TheVariants.{NotSold, Sold}
 use Rattle.outline.specs.Tests.{part}
-use Rattle.outline.specs.Fares.{Table, Rule, fare_at, table_at, no_table, no_link, no_rule}
+use Rattle.outline.specs.declared.Rule.{Rule}
+use Rattle.outline.specs.Fares.{Table, fare_at, table_at, no_table, no_link, no_rule}
 use Rattle.outline.specs.Network.{network_of, entry_of}
 use Rattle.outline.specs.Book.{word_at, company_count, link_count, rule_count, offset_of, length_of, links_entry, rules_entry, first_body, end_before, body_of, company_length, station_count, words, table_of, entry_place, link_length, link_of, rule_length, rule_of, fares_of, network}
 use Rattle.outline.specs.Valid.{LaidOut}
@@ -201,17 +201,6 @@ module _ (b : List ℕ) where
   pub link_read : (body : List ℕ) (k : ℕ) → body ≡ body_of b (links_entry b) → k < (network b).links → link_of body k ≡ (network b).link k
   link_read body k e h = ap (λ (s : List ℕ). link_of s k) e ∙ sym (network_link b k (rw (network_links b) at h))
 
--- ---- entries
-
-pub entry_none : (x : ℕ) → x ≡ 0 → NotSold ≡ entry_of x
-unfolding entry_of
-entry_none x e = rw e
-
-pub entry_sold : (x : ℕ) → (x ≡ 0 → ⊥) → Sold x ≡ entry_of x
-unfolding entry_of
-entry_sold zero p = absurd (p refl)
-entry_sold (suc x) p = refl
-
 -- ---- the parts of a rule
 
 pub record RuleSized (r : Rule) : Type 0 where
@@ -241,6 +230,13 @@ table_read b body c start h e s = rw (e, s, get_or-list_of (λ (c : ℕ). table_
 pub tables_count : (b : List ℕ) → length (fares_of b).tables ≡ company_count b
 unfolding fares_of
 tables_count b = length-list_of _ (company_count b)
+
+pub known_table : (b : List ℕ) (c : ℕ) → c < length (fares_of b).tables → c < company_count b
+known_table b c h = rw (tables_count b) at h
+
+pub table_of_company : (b : List ℕ) (c : ℕ) → c < length (fares_of b).tables → table_at (fares_of b) c ≡ table_of (body_of b c)
+unfolding fares_of
+table_of_company b c h = get_or-list_of (λ (c : ℕ). table_of (body_of b c)) (company_count b) c no_table (known_table b c h)
 
 -- ---- small numbers of a book that is laid out
 

@@ -10,10 +10,7 @@ use lib.Dec.{eqb}
 use borrow.Author.Tests.{ltb-true, lt-ltb, eqb-true, eqb-false, ne_eqb, not-true}
 use Rattle.outline.specs.declared.Station.{Station}
 use Rattle.outline.specs.declared.Leg.{Leg}
-use Rattle.outline.specs.declared.Entry.{Entry}
-use Rattle.outline.specs.declared.Entry.TheVariants.{NotSold, Sold}
-use Rattle.outline.specs.declared.Joined.{Joined}
-use Rattle.outline.specs.declared.Joined.TheVariants.{ByLink, NoLink}
+use Rattle.std.specs.Prelude.{Option, Some, None}
 use Rattle.outline.specs.Tests.{either}
 use Rattle.outline.specs.Network.{Network, link_between}
 use Rattle.outline.specs.Routes.{boarded_at, alighted_at, Exists, Change, ride_at, is_sold, exists, is_link, reached, met, meets, repeats, good_next}
@@ -23,10 +20,10 @@ use Rattle.laws.proofs.Book.{no_link_lem, found_link}
 
 -- ---- a ride exists
 
-sold_is : (e : Entry) → (is_sold e ≡ true) ↔ (e ≡ NotSold → ⊥)
+sold_is : (e : Option ℕ) → (is_sold e ≡ true) ↔ (e ≡ None → ⊥)
 unfolding is_sold
-sold_is NotSold = (λ t. absurd (true_not_false (sym t)), λ n. absurd (n refl))
-sold_is (Sold yen) = (λ t e. let z : ◌≡◌ {A = ℕ} 0 1 = cc in omega arith, λ n. refl)
+sold_is None = (λ t. absurd (true_not_false (sym t)), λ n. absurd (n refl))
+sold_is (Some yen) = (λ t e. let z : ◌≡◌ {A = ℕ} 0 1 = cc in omega arith, λ n. refl)
 
 pub exists_is : (N : Network) (l : Leg) → (exists N l ≡ true) ↔ Exists N l
 unfolding exists
@@ -59,13 +56,13 @@ link_is : (N : Network) (x y : Station) → (is_link (link_between N x y) ≡ tr
 unfolding is_link
 link_is N x y = (go (link_between N x y) refl, back (link_between N x y) refl)
   where
-    go : (a : Joined) → link_between N x y ≡ a → is_link a ≡ true → Change N x y
-    go (ByLink k) e t = let f = found_link N x y k e in record { link = k; known = f.0; joined = f.1 }
-    go NoLink e t = absurd (true_not_false (sym t))
+    go : (a : Option ℕ) → link_between N x y ≡ a → is_link a ≡ true → Change N x y
+    go (Some k) e t = let f = found_link N x y k e in record { link = k; known = f.0; joined = f.1 }
+    go None e t = absurd (true_not_false (sym t))
 
-    back : (a : Joined) → link_between N x y ≡ a → Change N x y → is_link a ≡ true
-    back (ByLink k) e c = refl
-    back NoLink e c = absurd (true_not_false (sym c.joined ∙ (no_link_lem N x y).0 e c.link c.known))
+    back : (a : Option ℕ) → link_between N x y ≡ a → Change N x y → is_link a ≡ true
+    back (Some k) e c = refl
+    back None e c = absurd (true_not_false (sym c.joined ∙ (no_link_lem N x y).0 e c.link c.known))
 
 -- where there is a ride before, a change leads from it to ride l
 abbrev pub Follows : Network → List Leg → Leg → Type 0

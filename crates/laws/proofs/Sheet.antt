@@ -1,5 +1,6 @@
 -- Laws of reading a sheet: where its parts begin, what its network's fields are, and that a sheet is good exactly where it is valid.
 use Prim.Native.Nat.{ℕ, zero, suc, ◌+◌, ◌*◌, ◌≤◌, ◌<◌}
+use Rattle.std.proofs.Common.{Ok}
 use mathlib.Core.Path.{◌≡◌, refl, ap, ◌∙◌}
 use mathlib.Core.List.{List, ◌∷◌, ◌++◌}
 use mathlib.Core.Logic.{◌↔◌}
@@ -7,14 +8,12 @@ use native.Mathlib.Numerals.{add-one}
 use native.Mathlib.Omega.{arith}
 use lib.ListN.{length, get_or}
 use borrow.Author.Tests.{leb-true, eqb-true, le-leb, lt-ltb, eq-eqb}
-use Rattle.outline.specs.declared.Judged.TheVariants.{Good}
 use Rattle.outline.specs.Tests.{part}
 use Rattle.outline.specs.Fares.{Table, fare_at, table_at, link_at, rule_at, no_table, no_link, no_rule}
 use Rattle.outline.specs.Refusals.{first_below}
 use Rattle.outline.specs.Network.{network_of}
 use Rattle.outline.specs.Sheet.{counts_length, companies_in, links_in, rules_in, table_numbers, company_start, stations_in, table_in, fare_index, link_numbers, link_start, link_in, rule_numbers, rule_start, rule_in, fares_in, network_in}
 use Rattle.outline.specs.SheetValid.{GoodCounts, CompanyNumbers, SheetLaidOut, ValidSheet}
-use Rattle.outline.specs.Judging.{table_check}
 use Rattle.outline.specs.SheetJudging.{counts_check, numbers_check, remainder_check, entry_index, sheet_check}
 use Rattle.laws.proofs.Tests.{get_or-list_of, length-list_of, within_true, within_holds}
 use Rattle.laws.proofs.Firsts.{demand_good, demand_holds, then_good, then_next, first_good, first_holds}
@@ -105,12 +104,6 @@ pub square_in : (s : List ℕ) (at : ℕ) → at + table_numbers (get_or s at 0)
 unfolding table_in
 square_in s at h = part_length s (at + 1) (get_or s at 0 * get_or s at 0) (omega arith)
 
--- what is judged of the table at company c's start is judged of the sheet's table c
-pub table_judged_in : (s : List ℕ) (c at : ℕ) → c < companies_in s → at ≡ company_start s c
-    → table_check (λ (i j : ℕ). at + fare_index (get_or s at 0) i j) (table_in s at) ≡ table_check (entry_index s c) (table_at (fares_in s) c)
-unfolding entry_index
-table_judged_in s c at h e = rw (e, table_in_lem s c h)
-
 -- ---- what a sheet that is laid out gives
 
 module _ (s : List ℕ) (laid : SheetLaidOut s) where
@@ -147,7 +140,7 @@ rule_maps_in s at =
 
 -- ---- what is refused and what is valid
 
-pub counts_good : (s : List ℕ) → counts_check s ≡ Good → GoodCounts s
+pub counts_good : (s : List ℕ) → counts_check s ≡ Ok tt → GoodCounts s
 unfolding counts_check
 counts_good s e =
     let s1 = demand_good _ _ _ e in
@@ -161,7 +154,7 @@ counts_good s e =
       rules = leb-true _ _ s4.0;
     }
 
-pub counts_holds : (s : List ℕ) → GoodCounts s → counts_check s ≡ Good
+pub counts_holds : (s : List ℕ) → GoodCounts s → counts_check s ≡ Ok tt
 unfolding counts_check
 counts_holds s h =
     demand_holds _ _ _ (le-leb _ _ h.present)
@@ -169,7 +162,7 @@ counts_holds s h =
     ∙ demand_holds _ _ _ (le-leb _ _ h.links)
     ∙ demand_holds _ _ _ (le-leb _ _ h.rules)
 
-pub numbers_good : (s : List ℕ) (c : ℕ) → numbers_check s c ≡ Good → CompanyNumbers s c
+pub numbers_good : (s : List ℕ) (c : ℕ) → numbers_check s c ≡ Ok tt → CompanyNumbers s c
 unfolding numbers_check
 numbers_good s c e =
     let s1 = demand_good _ _ _ e in
@@ -177,7 +170,7 @@ numbers_good s c e =
     let s3 = demand_good _ _ _ s2.1 in
     record { stations = within_true _ _ _ s2.0; inside = leb-true _ _ s3.0 }
 
-pub numbers_holds : (s : List ℕ) (c : ℕ) → CompanyNumbers s c → numbers_check s c ≡ Good
+pub numbers_holds : (s : List ℕ) (c : ℕ) → CompanyNumbers s c → numbers_check s c ≡ Ok tt
 unfolding numbers_check
 numbers_holds s c h =
     let i = h.inside in
@@ -186,23 +179,23 @@ numbers_holds s c h =
     ∙ demand_holds _ _ _ (within_holds _ _ _ h.stations)
     ∙ demand_holds _ _ _ (le-leb _ _ i)
 
-pub companies_good : (s : List ℕ) (n : ℕ) → first_below (numbers_check s) n ≡ Good → (c : ℕ) → c < n → CompanyNumbers s c
+pub companies_good : (s : List ℕ) (n : ℕ) → first_below (numbers_check s) n ≡ Ok tt → (c : ℕ) → c < n → CompanyNumbers s c
 companies_good s n e c h = numbers_good s c (first_good (numbers_check s) n e c h)
 
-pub laid_good : (s : List ℕ) → GoodCounts s → ((c : ℕ) → c < companies_in s → CompanyNumbers s c) → remainder_check s ≡ Good → SheetLaidOut s
+pub laid_good : (s : List ℕ) → GoodCounts s → ((c : ℕ) → c < companies_in s → CompanyNumbers s c) → remainder_check s ≡ Ok tt → SheetLaidOut s
 unfolding remainder_check
 laid_good s counts companies e = record { counts = counts; companies = companies; ends = eqb-true _ _ (demand_good _ _ _ e).0 }
 
-pub remainder_holds : (s : List ℕ) → SheetLaidOut s → remainder_check s ≡ Good
+pub remainder_holds : (s : List ℕ) → SheetLaidOut s → remainder_check s ≡ Ok tt
 unfolding remainder_check
 remainder_holds s h = demand_holds _ _ _ (eq-eqb _ _ h.ends)
 
 -- A sheet is refused exactly where it is not valid.
-pub sheet_good : (s : List ℕ) → (sheet_check s ≡ Good) ↔ ValidSheet s
+pub sheet_good : (s : List ℕ) → (sheet_check s ≡ Ok tt) ↔ ValidSheet s
 unfolding sheet_check
 sheet_good s = (valid, good)
   where
-    valid : sheet_check s ≡ Good → ValidSheet s
+    valid : sheet_check s ≡ Ok tt → ValidSheet s
     valid e =
         let s1 = then_good _ _ e in
         let s2 = then_good _ _ s1.1 in
@@ -212,7 +205,7 @@ sheet_good s = (valid, good)
           fares = fares_good (entry_index s) (fares_in s) s3.1;
         }
 
-    good : ValidSheet s → sheet_check s ≡ Good
+    good : ValidSheet s → sheet_check s ≡ Ok tt
     good v =
         then_next _ _ (counts_holds s v.laid_out.counts)
         ∙ then_next _ _ (first_holds (numbers_check s) _ (λ c h. numbers_holds s c (v.laid_out.companies c h)))

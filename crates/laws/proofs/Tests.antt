@@ -10,7 +10,8 @@ use native.Mathlib.Omega.{arith}
 use lib.ListN.{length, get_or}
 use lib.Dec.{ltb}
 use borrow.Author.Count.{below_more}
-use borrow.Author.Tests.{leb-true, le-leb, lt-leb, ltb-true, ltb-false}
+use Rattle.std.proofs.Common.{IsTrue, ◌↔◌}
+use borrow.Author.Tests.{leb-true, le-leb, ltb-true, ltb-false}
 use Rattle.outline.specs.Tests.{both, either, within, Within, all_below, some_below, list_of}
 
 pub true_not_false : true ≡ false → ⊥
@@ -61,13 +62,6 @@ within_holds low x high w = both_holds _ _ (le-leb _ _ w.from) (le-leb _ _ w.to)
 
 pub within_of : (low x high : ℕ) → low ≤ x → x ≤ high → within low x high ≡ true
 within_of low x high h l = within_holds low x high (record { from = h; to = l })
-
-pub within_low : (low x high : ℕ) → x < low → within low x high ≡ false
-unfolding within both
-within_low low x high h = rw (lt-leb low x h)
-
-pub within_high : (low x high : ℕ) → high < x → within low x high ≡ false
-within_high low x high h = fails (λ e. omega (arith, within_true low x high e))
 
 -- one of two numbers is the less, or they are equal
 pub compared : (m n : ℕ) → (m < n) ⊎ ((m ≡ n) ⊎ (n < m))
@@ -132,6 +126,14 @@ some_stops f n k h e = go (some_below f n) refl
     go : (t : Bool) → some_below f n ≡ t → t ≡ true
     go true p = refl
     go false p = absurd (true_not_false (sym e ∙ some_false f n p k h))
+
+-- a test that holds exactly where each number below n has f
+pub all_is : (f : ℕ → Bool) (n : ℕ) (t : Bool) → IsTrue t ↔ ((k : ℕ) → k < n → f k ≡ true) → t ≡ all_below f n
+all_is f n t h = go t refl
+  where
+    go : (s : Bool) → t ≡ s → s ≡ all_below f n
+    go true e = sym (all_holds f n (h.0 e))
+    go false e = sym (fails (λ a. true_not_false (sym (h.1 (all_true f n a)) ∙ e)))
 
 -- ---- lists given by their items
 

@@ -2,24 +2,13 @@
 ghost use Rattle.std.specs.Prelude.{◌≡◌, ◌+◌, ◌/◌, ◌%◌, ◌^◌, ◌<◌, length, eqb};
 ghost use Rattle.outline.specs.Book.{word_at};
 
-pub fn wide(x: u8) -> usize
-    ensures { (result ≡ x) × (result < 256) }
-{
-    x as usize
-}
-
-pub fn number(x: u8) -> u16
-    ensures { (result ≡ x) × (result < 256) }
-{
-    x as u16
-}
-
 // The two-byte number at `at`, the low byte first.
+#[tactic(auto, unfolding(outline::specs::Book::word_at))]
 pub fn word(b: &[u8], at: usize) -> u16
     requires { at + 1 < length b.now }
     ensures { result ≡ word_at b.now at }
 {
-    number(b[at]) + 256 * number(b[at + 1])
+    u16::from_le_bytes([b[at], b[at + 1]])
 }
 
 // Bit i mod 8 of x, the byte of a map that holds its item i.

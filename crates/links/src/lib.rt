@@ -1,84 +1,65 @@
-// The links: the first that is bad or repeated.
+// The links of a book or a sheet: the first that is bad or repeated.
 #![tactic(auto)]
 
-ghost use Rattle.std.specs.Prelude.{◌≡◌, ◌<◌};
-ghost use Rattle.outline.specs.Book.{network};
+ghost use Rattle.std.specs.Prelude.{◌≡◌, ◌<◌, length};
+ghost use Rattle.outline.specs.Fares.{link_at};
+ghost use Rattle.outline.specs.Network.{network_of};
 ghost use Rattle.outline.specs.Refusals.{first_below};
-ghost use Rattle.outline.specs.Valid.{LaidOut};
+ghost use Rattle.outline.specs.Sheet.{link_in};
 ghost use Rattle.outline.specs.Judging.{good_link, same_link, repeated, link_check};
 
-use layout::bytes::wide;
-use outline::{Judged, Link, Refusal};
+use outline::Refusal;
+use source::{Company, Source};
 
 // Whether the first company is less than the second and both stations exist.
-fn good_link(book: &[u8], l: Link) -> bool
-    requires { LaidOut book.now }
-    ensures { result ≡ good_link (network book.now) l }
+#[tactic(auto, unfolding(outline::specs::Judging::good_link, outline::specs::Tests::both, outline::specs::Network::network_of, outline::specs::Sheet::link_in))]
+fn good_link<S: Source>(source: S, link: [u16; 4]) -> bool
+    ensures { result ≡ good_link (network_of (S.fares source)) (link_in link 0) }
 {
-    let one = l.one;
-    let other = l.other;
-    if other.company <= one.company {
-        return false;
-    }
-    if lookup::companies(book) <= other.company {
-        return false;
-    }
-    if lookup::stations(book, one.company) <= one.number {
-        return false;
-    }
-    other.number < lookup::stations(book, other.company)
+    let one = link[0];
+    let other = link[2];
+    one < other
+        && other < source.companies()
+        && link[1] < source.company(one).stations()
+        && link[3] < source.company(other).stations()
 }
 
-fn same_link(x: Link, y: Link) -> bool
-    ensures { result ≡ same_link x y }
+fn same_link(x: [u16; 4], y: [u16; 4]) -> bool
+    ensures { result ≡ same_link (link_in x 0) (link_in y 0) }
 {
-    if lookup::same_station(x.one, y.one) {
-        return lookup::same_station(x.other, y.other);
-    }
-    false
+    x == y
 }
 
 // Whether a link before link k is the same.
-fn is_repeated(book: &[u8], k: u8) -> bool
-    requires { LaidOut book.now × (k < (network book.now).links) }
-    ensures { result ≡ repeated (network book.now) k }
+fn is_repeated<S: Source>(source: S, k: u16) -> bool
+    requires { k < length (S.fares source).links }
+    ensures { result ≡ repeated (network_of (S.fares source)) k }
 {
-    let l = lookup::link(book, k);
-    let mut j: u8 = 0;
-    while j < k {
-        if same_link(lookup::link(book, j), l) {
+    let link = source.link(k);
+    for j in 0..k {
+        if same_link(source.link(j), link) {
             return true;
         }
-        j += 1;
     }
     false
 }
 
-fn judge_link(book: &[u8], k: u8) -> Judged
-    requires { LaidOut book.now × (k < (network book.now).links) }
-    ensures { result ≡ link_check (network book.now) k }
+fn judge_link<S: Source>(source: S, k: u16) -> Result<(), Refusal>
+    requires { k < length (S.fares source).links }
+    ensures { result ≡ link_check (network_of (S.fares source)) k }
 {
-    if !good_link(book, lookup::link(book, k)) {
-        return Judged::Refused(Refusal::BadLink(wide(k)));
+    if !good_link(source, source.link(k)) || is_repeated(source, k) {
+        return Err(Refusal::BadLink(usize::from(k)));
     }
-    if is_repeated(book, k) {
-        return Judged::Refused(Refusal::BadLink(wide(k)));
-    }
-    Judged::Good
+    Ok(())
 }
 
-pub fn judge(book: &[u8]) -> Judged
-    requires { LaidOut book.now }
-    ensures { result ≡ first_below (link_check (network book.now)) (network book.now).links }
+#[tactic(auto, unfolding(outline::specs::Refusals::first_below), using(laws::proofs::Firsts::first_more, laws::proofs::Firsts::first_ends))]
+pub fn judge<S: Source>(source: S) -> Result<(), Refusal>
+    ensures { result ≡ first_below (link_check (network_of (S.fares source))) (network_of (S.fares source)).links }
 {
-    let n = lookup::links(book);
-    let mut k: u8 = 0;
-    while k < n {
-        let found = judge_link(book, k);
-        let Judged::Good = found else {
-            return found;
-        };
-        k += 1;
+    for k in 0..source.links() {
+        judge_link(source, k)?;
     }
-    Judged::Good
+    Ok(())
 }

@@ -113,17 +113,3 @@ decimal_short x h = let g : x < 100000 = omega arith in digits_most 4 x g
 
 pub decimal_most : (x : ℕ) → x < 18446744073709551616 → length (decimal x) ≤ 20
 decimal_most x h = let g : x < 100000000000000000000 = omega arith in digits_most 19 x g
-
--- ---- four bytes
-
-put_more : {a xs b : List ℕ} {i j : ℕ} → Put a i xs b j → (n x : ℕ) → j ≡ n → i + length xs + 1 ≤ length a → Put a i (xs ++ (x ∷ [])) (set b n x) (n + 1)
-put_more {a} {xs} {b} {i} {j} p n x e h =
-    put_then (subst (λ (m : ℕ). Put a i xs b m) e p) (put_one b n x (omega (arith, p.ends, put_length p (omega arith)))) h
-
-pub put_four : (s : List ℕ) (i a b c d : ℕ) → i + 4 ≤ length s → Put s i (a ∷ b ∷ c ∷ d ∷ []) (set (set (set (set s i a) (i + 1) b) (i + 2) c) (i + 3) d) (i + 4)
-put_four s i a b c d h =
-    let one = put_one s i a (omega arith) in
-    let two = put_more one (i + 1) b refl (omega arith) in
-    let three = put_more two (i + 2) c (omega arith) (omega arith) in
-    let four = put_more three (i + 3) d (omega arith) (omega arith) in
-    record { is = four.is; ends = refl }

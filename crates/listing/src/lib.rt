@@ -3,16 +3,14 @@
 
 ghost use Rattle.std.specs.Prelude.{◌≡◌, ◌∷◌, [], ◌++◌, ◌+◌, ◌≤◌, ◌<◌, length};
 ghost use Rattle.outline.specs.Book.{network};
-ghost use Rattle.outline.specs.Valid.{ValidBook};
 ghost use Rattle.outline.specs.Questions.{Known};
 ghost use Rattle.outline.specs.Lister.{bytes_of_text, line_feed, digit, decimal, field, fare_field, station_fields, answer_fields, line_of, refused_line};
 ghost use Rattle.listing.specs.Lines.{line_to, lines_to, lines_from};
 ghost use Rattle.listing.specs.Putting.{Put};
 
+use book::good::GoodBook;
 use book::refusal;
-use layout::bytes::wide;
-use lookup::same_station;
-use outline::{Answer, Judged, Question, Refusal, Station};
+use outline::{Answer, Question, Refusal, Station};
 
 const MOST_RIDES: u8 = 4;
 
@@ -21,9 +19,10 @@ fn character(d: usize) -> u8
     requires { d < 10 }
     ensures { result ≡ digit d }
 {
-    48 + d as u8
+    b'0' + d as u8
 }
 
+#[tactic(auto, using(crate::proofs::Putting::put_one))]
 fn put_byte(out: &mut [u8], at: usize, x: u8) -> usize
     requires { at < length out.old }
     ensures { Put out.old at (x ∷ []) out.new result }
@@ -32,15 +31,13 @@ fn put_byte(out: &mut [u8], at: usize, x: u8) -> usize
     at + 1
 }
 
-fn put_four(out: &mut [u8], at: usize, a: u8, b: u8, c: u8, d: u8) -> usize
-    requires { at + 4 ≤ length out.old }
-    ensures { Put out.old at (a ∷ b ∷ c ∷ d ∷ []) out.new result }
+fn put_bytes(out: &mut [u8], at: usize, text: &[u8]) -> usize
+    requires { at + length text.now ≤ length out.old }
+    ensures { Put out.old at text.now out.new result }
 {
-    out[at] = a;
-    out[at + 1] = b;
-    out[at + 2] = c;
-    out[at + 3] = d;
-    at + 4
+    let end = at + text.len();
+    out[at..end].copy_from_slice(text);
+    end
 }
 
 // A number in decimal digits.
@@ -68,26 +65,26 @@ fn put_station(out: &mut [u8], at: usize, x: Station) -> usize
     requires { at + 12 ≤ length out.old }
     ensures { Put out.old at (station_fields x) out.new result × (result ≤ at + 12) }
 {
-    let next = put_field(out, at, wide(x.company), b' ');
-    put_field(out, next, wide(x.number), b' ')
+    let next = put_field(out, at, usize::from(x.company), b' ');
+    put_field(out, next, usize::from(x.number), b' ')
 }
 
 fn put_none(out: &mut [u8], at: usize) -> usize
     requires { at + 6 ≤ length out.old }
     ensures { Put out.old at (bytes_of_text "none ") out.new result × (result ≤ at + 6) }
 {
-    let end = put_four(out, at, b'n', b'o', b'n', b'e');
-    put_byte(out, end, b' ')
+    put_bytes(out, at, b"none ")
 }
 
 // The fare, or that there is none.
-fn put_fare(out: &mut [u8], at: usize, judged: Judged, fare: u16) -> usize
+#[tactic(auto, unfolding(outline::specs::Lister::fare_field))]
+fn put_fare(out: &mut [u8], at: usize, judged: Result<(), Refusal>, fare: u16) -> usize
     requires { at + 6 ≤ length out.old }
     ensures { Put out.old at (fare_field judged fare) out.new result × (result ≤ at + 6) }
 {
     match judged {
-        Judged::Good => put_field(out, at, matching::yen(fare), b' '),
-        Judged::Refused(_) => put_none(out, at),
+        Ok(()) => put_field(out, at, usize::from(fare), b' '),
+        Err(_) => put_none(out, at),
     }
 }
 
@@ -97,7 +94,7 @@ fn put_answer(out: &mut [u8], at: usize, a: Answer) -> usize
 {
     let judged = a.judged;
     let rides = put_fare(out, at, judged, a.fare);
-    put_field(out, rides, wide(a.rides), b'\n')
+    put_field(out, rides, usize::from(a.rides), b'\n')
 }
 
 fn put_stations(out: &mut [u8], at: usize, x: Station, y: Station) -> usize
@@ -118,11 +115,11 @@ pub fn put_line(out: &mut [u8], at: usize, pair: Question, a: Answer) -> usize
 }
 
 // The line of two stations; the same station twice has none.
-fn put_pair(book: &[u8], x: Station, y: Station, out: &mut [u8], at: usize) -> usize
-    requires { ValidBook book.now × Known (network book.now) x × Known (network book.now) y × (at + 36 ≤ length out.old) }
-    ensures { Put out.old at (line_to (network book.now) x y) out.new result × (result ≤ at + 36) }
+fn put_pair(good: GoodBook, x: Station, y: Station, out: &mut [u8], at: usize) -> usize
+    requires { Known (network good.book.bytes.now) x × Known (network good.book.bytes.now) y × (at + 36 ≤ length out.old) }
+    ensures { Put out.old at (line_to (network good.entry.book.bytes.now) x y) out.new result × (result ≤ at + 36) }
 {
-    if same_station(x, y) {
+    if x == y {
         return at;
     }
     let pair = Question {
@@ -130,36 +127,32 @@ fn put_pair(book: &[u8], x: Station, y: Station, out: &mut [u8], at: usize) -> u
         to: y,
         limit: MOST_RIDES,
     };
-    let answer = search::ask(book, pair);
+    let answer = search::ask(good, pair);
     put_line(out, at, pair, answer)
 }
 
 // The lines from a station to those of a company.
-fn put_to(book: &[u8], x: Station, company: u8, out: &mut [u8], at: usize) -> usize
-    requires { ValidBook book.now × Known (network book.now) x × (company < (network book.now).companies) × (at + 1440 ≤ length out.old) }
-    ensures { Put out.old at (lines_to (network book.now) x company) out.new result × (result ≤ at + 1440) }
+fn put_to(good: GoodBook, x: Station, company: u8, out: &mut [u8], at: usize) -> usize
+    requires { Known (network good.book.bytes.now) x × (company < (network good.book.bytes.now).companies) × (at + 1440 ≤ length out.old) }
+    ensures { Put out.old at (lines_to (network good.entry.book.bytes.now) x company) out.new result × (result ≤ at + 1440) }
 {
-    let n = lookup::stations(book, company);
+    let n = good.book.stations(company);
     let mut end = at;
-    let mut j: u8 = 0;
-    while j < n {
-        end = put_pair(book, x, Station { company, number: j }, out, end);
-        j += 1;
+    for number in 0..n {
+        end = put_pair(good, x, Station { company, number }, out, end);
     }
     end
 }
 
 // The lines from a station, at the front of the lent list.
-pub fn put_from(book: &[u8], x: Station, out: &mut [u8]) -> usize
-    requires { ValidBook book.now × Known (network book.now) x × (23040 ≤ length out.old) }
-    ensures { Put out.old 0 (lines_from (network book.now) x) out.new result × (result ≤ 23040) }
+pub fn put_from(good: GoodBook, x: Station, out: &mut [u8]) -> usize
+    requires { Known (network good.book.bytes.now) x × (23040 ≤ length out.old) }
+    ensures { Put out.old 0 (lines_from (network good.entry.book.bytes.now) x) out.new result × (result ≤ 23040) }
 {
-    let n = lookup::companies(book);
+    let n = good.book.companies();
     let mut end: usize = 0;
-    let mut c: u8 = 0;
-    while c < n {
-        end = put_to(book, x, c, out, end);
-        c += 1;
+    for company in 0..n {
+        end = put_to(good, x, company, out, end);
     }
     end
 }
@@ -178,8 +171,7 @@ pub fn put_refused(out: &mut [u8], x: Refusal) -> usize
     requires { 35 ≤ length out.old }
     ensures { Put out.old 0 (refused_line x) out.new result × (result ≤ 35) }
 {
-    let half = put_four(out, 0, b'r', b'e', b'f', b'u');
-    let number = put_four(out, half, b's', b'e', b'd', b' ');
-    let place = put_field(out, number, wide(refusal::number(x)), b' ');
+    let number = put_bytes(out, 0, b"refused ");
+    let place = put_field(out, number, usize::from(refusal::number(x)), b' ');
     put_place(out, place, refusal::place(x))
 }

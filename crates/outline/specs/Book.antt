@@ -3,7 +3,8 @@ use Rattle.std.specs.Prelude.{ℕ, zero, suc, ◌+◌, ◌*◌, List, [], ◌∷
 use Rattle.outline.specs.declared.Station.{Station}
 use Rattle.outline.specs.declared.Link.{Link}
 use Rattle.outline.specs.Tests.{list_of, part}
-use Rattle.outline.specs.Fares.{Table, Rule, Fares}
+use Rattle.outline.specs.declared.Rule.{Rule}
+use Rattle.outline.specs.Fares.{Table, Fares}
 use Rattle.outline.specs.Network.{Network, network_of}
 
 -- "Two-byte numbers have the low byte first."

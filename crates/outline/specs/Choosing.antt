@@ -1,22 +1,19 @@
 -- The selection that counts, computed. That it is the one of Selections.antt is a theorem.
-use Rattle.std.specs.Prelude.{ℕ, zero, suc, ◌+◌, List, [], ◌∷◌, length, ltb, leb}
+use Rattle.std.specs.Prelude.{ℕ, zero, suc, ◌+◌, Option, Some, None, List, [], ◌∷◌, length, ltb, leb}
 use Rattle.outline.specs.declared.Run.{Run}
-use Rattle.outline.specs.declared.Saving.{Saving}
-use Rattle.outline.specs.declared.Saving.TheVariants.{Nothing, Yen}
 use Rattle.outline.specs.declared.Payer.{Payer}
-use Rattle.outline.specs.declared.Payer.TheVariants.{Nobody, Pays}
 use Rattle.outline.specs.Tests.{choose}
 use Rattle.outline.specs.Selections.{Earn, total}
 
 -- of a rule and a later one, number k: the greater saving, then the lower number
-unfoldable pub or_rule : Payer → ℕ → Saving → Payer
-or_rule held k Nothing = held
-or_rule Nobody k (Yen y) = Pays k y
-or_rule (Pays j x) k (Yen y) = choose (ltb x y) (Pays k y) (Pays j x)
+unfoldable pub or_rule : Option Payer → ℕ → Option ℕ → Option Payer
+or_rule held k None = held
+or_rule None k (Some y) = Some (record { rule = k; yen = y })
+or_rule (Some p) k (Some y) = choose (ltb p.yen y) (Some (record { rule = k; yen = y })) (Some p)
 
 -- of the first n rules
-unfoldable pub best_rule : (ℕ → Saving) → ℕ → Payer
-best_rule saving zero = Nobody
+unfoldable pub best_rule : (ℕ → Option ℕ) → ℕ → Option Payer
+best_rule saving zero = None
 best_rule saving (suc k) = or_rule (best_rule saving k) k (saving k)
 
 -- s, unless it earns less than t, or as much with more runs
@@ -27,9 +24,9 @@ rather earn s t =
     (choose (leb (length s) (length t)) s t))
 
 -- a run of so many rides from ride `at` on, by its best rule, with `rest` after it, rather than what is held
-unfoldable pub with_run : Earn → ℕ → ℕ → List Run → List Run → Payer → List Run
-with_run earn at rides rest held Nobody = held
-with_run earn at rides rest held (Pays k y) = rather earn (record { first = at; rides = rides; rule = k } ∷ rest) held
+unfoldable pub with_run : Earn → ℕ → ℕ → List Run → List Run → Option Payer → List Run
+with_run earn at rides rest held None = held
+with_run earn at rides rest held (Some p) = rather earn (record { first = at; rides = rides; rule = p.rule } ∷ rest) held
 
 unfoldable pub or_run : Earn → ℕ → ℕ → ℕ → List Run → List Run → List Run
 or_run earn rules at rides rest held = with_run earn at rides rest held (best_rule (earn at rides) rules)

@@ -1,6 +1,7 @@
 -- What a fare book or a sheet says, in parts: a table for each company, links and rules.
 use Rattle.std.specs.Prelude.{ℕ, ◌+◌, ◌*◌, ◌/◌, ◌%◌, ◌^◌, Bool, List, [], get_or, eqb}
 use Rattle.outline.specs.declared.Link.{Link}
+use Rattle.outline.specs.declared.Rule.{Rule}
 
 -- "one byte n, then n × n two-byte entries, row by row"
 pub record Table : Type 0 where
@@ -10,16 +11,6 @@ pub record Table : Type 0 where
 -- "the row is the boarding station, the column the alighting one"
 unfoldable pub fare_at : Table → ℕ → ℕ → ℕ
 fare_at t i j = get_or t.fares (i * t.stations + j) 0
-
--- "m (2 to 4); four company bytes ..; the amount, two bytes; a map of boarding stations of the first company, five bytes; a map of
--- alighting stations of the m-th company, five bytes; a map of permitted links, sixteen bytes"
-pub record Rule : Type 0 where
-  pub rides : ℕ
-  pub companies : List ℕ
-  pub amount : ℕ
-  pub boarding : List ℕ
-  pub alighting : List ℕ
-  pub permitted : List ℕ
 
 -- the rule's company for ride i of a run
 abbrev pub company_at : Rule → ℕ → ℕ

@@ -1,13 +1,12 @@
 -- Document 01, "What is refused, and when": the refusals of a book, in the outline's order.
-use Rattle.std.specs.Prelude.{ℕ, ◌+◌, ◌-◌, ◌*◌, Bool, not, List, [], length, get_or, leb, ltb, eqb}
+use Rattle.std.specs.Prelude.{ℕ, ◌+◌, ◌-◌, ◌*◌, Bool, not, List, [], length, get_or, leb, ltb, eqb, Ok, Err}
 use Rattle.outline.specs.declared.Link.{Link}
 use Rattle.outline.specs.declared.Refusal.TheVariants.{WrongLength, UnknownLayout, OutsideLimits, BadContents, BadStations, BadEntry, BadLink, BadRule}
-use Rattle.outline.specs.declared.Judged.{Judged}
-use Rattle.outline.specs.declared.Judged.TheVariants.{Good, Refused}
 use Rattle.outline.specs.Numbers.{most_companies, least_stations, most_stations, most_links, most_rules, most_fare, most_amount, least_run, most_run, no_company}
 use Rattle.outline.specs.Tests.{both, either, choose, within, all_below, some_below}
-use Rattle.outline.specs.Refusals.{demand, ◌and_then◌, first_below}
-use Rattle.outline.specs.Fares.{Table, Rule, Fares, fare_at, table_at, company_at, in_map}
+use Rattle.outline.specs.Refusals.{demand, ◌and_then◌, first_below, Judged}
+use Rattle.outline.specs.declared.Rule.{Rule}
+use Rattle.outline.specs.Fares.{Table, Fares, fare_at, table_at, company_at, in_map}
 use Rattle.outline.specs.Network.{Network, network_of, same_station}
 use Rattle.outline.specs.Book.{layout_number, company_count, link_count, rule_count, header_length, offset_of, length_of, links_entry, rules_entry, first_body, end_before, body_of, company_length, station_count, entry_place, link_length, rule_length, fares_of}
 
@@ -20,7 +19,7 @@ header_check b =
     (demand (leb (link_count b) most_links) OutsideLimits
     (demand (leb (rule_count b) most_rules) OutsideLimits
     (demand (leb (first_body b) (length b)) WrongLength
-    Good)))))
+    (Ok tt))))))
 
 -- "Per company: offset differs from the end of the part before, length 0, or body past the book's end is 4; then 5; then length not
 -- 1 + 2n² is 4."
@@ -31,7 +30,7 @@ company_check b c =
     (demand (leb (offset_of b c + length_of b c) (length b)) (BadContents c)
     (demand (within least_stations (station_count (body_of b c)) most_stations) (BadStations c)
     (demand (eqb (length_of b c) (company_length (station_count (body_of b c)))) (BadContents c)
-    Good))))
+    (Ok tt)))))
 
 -- "Then links and rules entries, 4: wrong offset, body past the book's end, or length not 4L or 33R"
 unfoldable pub list_check : List ℕ → ℕ → ℕ → Judged
@@ -39,11 +38,11 @@ list_check b e bytes =
     demand (eqb (offset_of b e) (end_before b e)) (BadContents e)
     (demand (leb (offset_of b e + length_of b e) (length b)) (BadContents e)
     (demand (eqb (length_of b e) bytes) (BadContents e)
-    Good))
+    (Ok tt)))
 
 -- "(bytes left over are the last entry, here C + 1)"
 unfoldable pub end_check : List ℕ → Judged
-end_check b = demand (eqb (offset_of b (rules_entry b) + length_of b (rules_entry b)) (length b)) (BadContents (rules_entry b)) Good
+end_check b = demand (eqb (offset_of b (rules_entry b) + length_of b (rules_entry b)) (length b)) (BadContents (rules_entry b)) (Ok tt)
 
 unfoldable pub contents_check : List ℕ → Judged
 contents_check b =
@@ -57,7 +56,7 @@ unfoldable pub good_entry : ℕ → ℕ → ℕ → Bool
 good_entry i j x = choose (eqb i j) (eqb x 0) (leb x most_fare)
 
 unfoldable pub entry_check : (ℕ → ℕ → ℕ) → Table → ℕ → ℕ → Judged
-entry_check place t i j = demand (good_entry i j (fare_at t i j)) (BadEntry (place i j)) Good
+entry_check place t i j = demand (good_entry i j (fare_at t i j)) (BadEntry (place i j)) (Ok tt)
 
 unfoldable pub row_check : (ℕ → ℕ → ℕ) → Table → ℕ → Judged
 row_check place t i = first_below (entry_check place t i) t.stations
@@ -84,7 +83,7 @@ unfoldable pub repeated : Network → ℕ → Bool
 repeated N k = some_below (λ j. same_link (N.link j) (N.link k)) k
 
 unfoldable pub link_check : Network → ℕ → Judged
-link_check N k = demand (good_link N (N.link k)) (BadLink k) (demand (not (repeated N k)) (BadLink k) Good)
+link_check N k = demand (good_link N (N.link k)) (BadLink k) (demand (not (repeated N k)) (BadLink k) (Ok tt))
 
 -- 8: "m (2 to 4); four company bytes, the first m existing, neighbours different, the rest 255"
 unfoldable pub good_company : ℕ → ℕ → List ℕ → ℕ → Bool
@@ -113,7 +112,7 @@ good_rule N r =
     (good_maps N r)))
 
 unfoldable pub rule_check : Network → ℕ → Judged
-rule_check N k = demand (good_rule N (N.rule k)) (BadRule k) Good
+rule_check N k = demand (good_rule N (N.rule k)) (BadRule k) (Ok tt)
 
 -- "Then all of 6, all of 7, all of 8, each at its first place"; `place` tells an entry's place
 unfoldable pub fares_check : (ℕ → ℕ → ℕ → ℕ) → Fares → Judged
@@ -132,8 +131,8 @@ book_check b = header_check b and_then contents_check b and_then fares_check (en
 -- "A company's body, asked for by its number, is handed back as a part of the book itself; where the book is refused or has no such
 -- company, the part is empty, and only then."
 unfoldable pub where_good {ℓ} : {A : Type ℓ} → Judged → A → A → A
-where_good Good a b = a
-where_good (Refused x) a b = b
+where_good (Ok _) a b = a
+where_good (Err x) a b = b
 
 unfoldable pub company_body : List ℕ → ℕ → List ℕ
 company_body b c = where_good (book_check b) (choose (ltb c (company_count b)) (body_of b c) []) []

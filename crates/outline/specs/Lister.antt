@@ -1,16 +1,14 @@
 -- Document 01, "The pair lister reads a book on standard input and prints": its lines, a byte a character.
-use Rattle.std.specs.Prelude.{ℕ, zero, suc, ◌+◌, ◌/◌, ◌%◌, not, List, [], ◌∷◌, ◌++◌, take, ltb}
+use Rattle.std.specs.Prelude.{ℕ, zero, suc, ◌+◌, ◌/◌, ◌%◌, not, List, [], ◌∷◌, ◌++◌, take, ltb, Ok, Err}
 use Prim.Native.Char.{code}
 use Prim.Native.String.{String, [] as []ᵗ, ◌∷◌ as ◌∷ᵗ◌}
 use Rattle.outline.specs.declared.Station.{Station}
 use Rattle.outline.specs.declared.Question.{Question}
 use Rattle.outline.specs.declared.Answer.{Answer}
 use Rattle.outline.specs.declared.Refusal.{Refusal}
-use Rattle.outline.specs.declared.Judged.{Judged}
-use Rattle.outline.specs.declared.Judged.TheVariants.{Good, Refused}
 use Rattle.outline.specs.Numbers.{most_rides}
 use Rattle.outline.specs.Tests.{choose, list_of, in_order}
-use Rattle.outline.specs.Refusals.{number_of, place_of}
+use Rattle.outline.specs.Refusals.{number_of, place_of, Judged}
 use Rattle.outline.specs.Network.{Network, same_station}
 use Rattle.outline.specs.Book.{network}
 use Rattle.outline.specs.Judging.{book_check}
@@ -65,8 +63,8 @@ unfoldable pub station_fields : Station → List ℕ
 station_fields x = field x.company space ++ field x.number space
 
 unfoldable pub fare_field : Judged → ℕ → List ℕ
-fare_field Good fare = field fare space
-fare_field (Refused x) fare = bytes_of_text "none "
+fare_field (Ok _) fare = field fare space
+fare_field (Err x) fare = bytes_of_text "none "
 
 unfoldable pub answer_fields : Answer → List ℕ
 answer_fields a = fare_field a.judged a.fare ++ field a.rides line_feed
@@ -82,8 +80,8 @@ unfoldable pub refused_line : Refusal → List ℕ
 refused_line x = bytes_of_text "refused " ++ (field (number_of x) space ++ field (place_of x) line_feed)
 
 unfoldable pub lines_of : Judged → Network → List ℕ
-lines_of Good N = of_each (pair_line N) (pairs N)
-lines_of (Refused x) N = refused_line x
+lines_of (Ok _) N = of_each (pair_line N) (pairs N)
+lines_of (Err x) N = refused_line x
 
 -- "Input over 65,536 bytes is judged by its first 65,536."
 unfoldable pub lister_output : List ℕ → List ℕ

@@ -1,5 +1,5 @@
 -- Document 01, "Price": a route's fare, how each ride is paid for, and the answer to a given route.
-use Rattle.std.specs.Prelude.{ℕ, ◌+◌, ◌-◌, ◌≡◌, Bool, List, [], ◌∷◌, length, leb, ltb}
+use Rattle.std.specs.Prelude.{ℕ, ◌+◌, ◌-◌, ◌≡◌, Bool, List, [], ◌∷◌, length, leb, ltb, Ok, Err}
 use Rattle.outline.specs.declared.Leg.{Leg}
 use Rattle.outline.specs.declared.Run.{Run}
 use Rattle.outline.specs.declared.Ride.{Ride}
@@ -7,10 +7,8 @@ use Rattle.outline.specs.declared.Paid.{Paid}
 use Rattle.outline.specs.declared.Paid.TheVariants.{Full, ByRule}
 use Rattle.outline.specs.declared.Answer.{Answer}
 use Rattle.outline.specs.declared.Refusal.{Refusal}
-use Rattle.outline.specs.declared.Judged.{Judged}
-use Rattle.outline.specs.declared.Judged.TheVariants.{Good, Refused}
 use Rattle.outline.specs.Tests.{both, choose}
-use Rattle.outline.specs.Refusals.{◌and_then◌}
+use Rattle.outline.specs.Refusals.{◌and_then◌, Judged}
 use Rattle.outline.specs.Network.{Network}
 use Rattle.outline.specs.Book.{network}
 use Rattle.outline.specs.Judging.{book_check}
@@ -57,7 +55,7 @@ place_at route runs i = choose (ltb i (length route)) (paid_ride (ride_at route 
 -- "An answer holds the fare, the number of rides and four places for rides."
 unfoldable pub answer_with : Network → List Leg → List Run → Answer
 answer_with N route runs = record {
-  judged = Good;
+  judged = Ok tt;
   fare = fare_with N route runs;
   rides = length route;
   places = place_at route runs 0 ∷ place_at route runs 1 ∷ place_at route runs 2 ∷ place_at route runs 3 ∷ [];
@@ -75,11 +73,11 @@ answer_of N route = answer_with N route (runs_of N route)
 
 -- "a refused price or question carries fare 0, no rides and unused places"
 unfoldable pub refused_answer : Refusal → Answer
-refused_answer x = record { judged = Refused x; fare = 0; rides = 0; places = unused ∷ unused ∷ unused ∷ unused ∷ [] }
+refused_answer x = record { judged = Err x; fare = 0; rides = 0; places = unused ∷ unused ∷ unused ∷ unused ∷ [] }
 
 unfoldable pub answer_to : Judged → Answer → Answer
-answer_to Good answer = answer
-answer_to (Refused x) answer = refused_answer x
+answer_to (Ok _) answer = answer
+answer_to (Err x) answer = refused_answer x
 
 -- "A given route: book first, then 14"
 unfoldable pub price_of : List ℕ → List ℕ → Answer

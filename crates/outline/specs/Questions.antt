@@ -1,15 +1,13 @@
 -- Document 01, "Cheapest": a question, the order of routes, and what a question is answered with.
-use Rattle.std.specs.Prelude.{ℕ, ◌-◌, ◌≤◌, ◌<◌, ◌≡◌, Bool, not, ◌⊎◌, List, length, ltb}
+use Rattle.std.specs.Prelude.{ℕ, ◌-◌, ◌≤◌, ◌<◌, ◌≡◌, Bool, not, ◌⊎◌, List, length, ltb, Ok, Err}
 use Rattle.outline.specs.declared.Station.{Station}
 use Rattle.outline.specs.declared.Leg.{Leg}
 use Rattle.outline.specs.declared.Question.{Question}
 use Rattle.outline.specs.declared.Answer.{Answer}
 use Rattle.outline.specs.declared.Refusal.TheVariants.{UnknownStation, SameStation, BadLimit, NoRoute}
-use Rattle.outline.specs.declared.Judged.{Judged}
-use Rattle.outline.specs.declared.Judged.TheVariants.{Good, Refused}
 use Rattle.outline.specs.Numbers.{most_rides}
 use Rattle.outline.specs.Tests.{both, within, Within}
-use Rattle.outline.specs.Refusals.{demand, ◌and_then◌}
+use Rattle.outline.specs.Refusals.{demand, ◌and_then◌, Judged}
 use Rattle.outline.specs.Network.{Network, same_station}
 use Rattle.outline.specs.Book.{network}
 use Rattle.outline.specs.Judging.{book_check}
@@ -77,12 +75,12 @@ question_check N q =
     (demand (known N q.to) (UnknownStation 1)
     (demand (not (same_station q.from q.to)) SameStation
     (demand (within 1 q.limit most_rides) BadLimit
-    Good)))
+    (Ok tt))))
 
 -- what is refused has its answer; of a good book and question, what was found
 unfoldable pub AnswerTo : Judged → Network → Question → Answer → Type 0
-AnswerTo Good N q r = Answered N q r
-AnswerTo (Refused x) N q r = r ≡ refused_answer x
+AnswerTo (Ok _) N q r = Answered N q r
+AnswerTo (Err x) N q r = r ≡ refused_answer x
 
 -- "A question: book first, then 9 (from before to), 10, 11, 12."
 unfoldable pub Asked : List ℕ → Question → Answer → Type 0

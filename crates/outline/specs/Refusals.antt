@@ -1,9 +1,11 @@
 -- Document 01, "What is refused, and when": the numbers and places, and how refusals follow one another.
-use Rattle.std.specs.Prelude.{ℕ, zero, suc, Bool, true, false}
+use Rattle.std.specs.Prelude.{ℕ, zero, suc, Bool, true, false, Result, Ok, Err}
 use Rattle.outline.specs.declared.Refusal.{Refusal}
 use Rattle.outline.specs.declared.Refusal.TheVariants.{WrongLength, UnknownLayout, OutsideLimits, BadContents, BadStations, BadEntry, BadLink, BadRule, UnknownStation, SameStation, BadLimit, NoRoute, NoRoom, BadRide}
-use Rattle.outline.specs.declared.Judged.{Judged}
-use Rattle.outline.specs.declared.Judged.TheVariants.{Good, Refused}
+
+-- good, or what is refused
+abbrev pub Judged : Type 0
+Judged = Result (Unit {0}) Refusal
 
 abbrev pub number_of : Refusal → ℕ
 number_of WrongLength = 1  -- "book or sheet ends early, or a sheet goes on"
@@ -40,15 +42,15 @@ place_of (BadRide ride) = ride  -- "first bad ride"
 -- refused unless the test holds; where it holds, what comes next
 unfoldable pub demand : Bool → Refusal → Judged → Judged
 demand true x next = next
-demand false x next = Refused x
+demand false x next = Err x
 
 -- a refusal stands; after good comes the next
 infixr 30 ◌and_then◌
 unfoldable pub ◌and_then◌ : Judged → Judged → Judged
-Good and_then next = next
-Refused x and_then next = Refused x
+Ok _ and_then next = next
+Err x and_then next = Err x
 
 -- f 0, f 1, .., n of them, one after the other: good, or refused at the first place
 unfoldable pub first_below : (ℕ → Judged) → ℕ → Judged
-first_below f zero = Good
+first_below f zero = Ok tt
 first_below f (suc n) = first_below f n and_then f n

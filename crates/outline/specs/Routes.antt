@@ -1,17 +1,11 @@
 -- Document 01, "Routes": rides, changes, admissible routes, and a given route judged.
-use Rattle.std.specs.Prelude.{ℕ, ◌+◌, ◌-◌, ◌*◌, ◌/◌, ◌<◌, ◌≡◌, Bool, true, false, not, List, [], ◌∷◌, length, get_or, take, ltb, eqb}
+use Rattle.std.specs.Prelude.{ℕ, ◌+◌, ◌-◌, ◌*◌, ◌/◌, ◌<◌, ◌≡◌, Bool, true, false, not, Option, Some, None, List, [], ◌∷◌, length, get_or, take, ltb, eqb, Ok}
 use Rattle.outline.specs.declared.Station.{Station}
 use Rattle.outline.specs.declared.Leg.{Leg}
-use Rattle.outline.specs.declared.Joined.{Joined}
-use Rattle.outline.specs.declared.Joined.TheVariants.{ByLink, NoLink}
-use Rattle.outline.specs.declared.Entry.{Entry}
-use Rattle.outline.specs.declared.Entry.TheVariants.{NotSold, Sold}
 use Rattle.outline.specs.declared.Refusal.TheVariants.{BadRide}
-use Rattle.outline.specs.declared.Judged.{Judged}
-use Rattle.outline.specs.declared.Judged.TheVariants.{Good}
 use Rattle.outline.specs.Numbers.{most_rides}
 use Rattle.outline.specs.Tests.{both, either, some_below, Within, list_of}
-use Rattle.outline.specs.Refusals.{demand, first_below}
+use Rattle.outline.specs.Refusals.{demand, first_below, Judged}
 use Rattle.outline.specs.Network.{Network, same_station, joins, link_between}
 
 -- ---- rides and changes
@@ -22,7 +16,7 @@ boarded_at l = record { company = l.company; number = l.boarding }
 abbrev pub alighted_at : Leg → Station
 alighted_at l = record { company = l.company; number = l.alighting }
 
-abbrev pub entry_for : Network → Leg → Entry
+abbrev pub entry_for : Network → Leg → Option ℕ
 entry_for N l = N.entry l.company l.boarding l.alighting
 
 -- "A ride is a company and two different stations of it with an entry above 0."
@@ -31,7 +25,7 @@ pub record Exists (N : Network) (l : Leg) : Type 0 where
   pub boarding : l.boarding < N.stations l.company
   pub alighting : l.alighting < N.stations l.company
   pub different : l.boarding ≡ l.alighting → ⊥
-  pub sold : entry_for N l ≡ NotSold → ⊥
+  pub sold : entry_for N l ≡ None → ⊥
 
 -- "A change is one link, from the station alighted at to the station boarded at."
 pub record Change (N : Network) (from to : Station) : Type 0 where
@@ -65,7 +59,7 @@ pub record Admissible (N : Network) (route : List Leg) : Type 0 where
   pub once : Distinct (stations_of route)
 
 -- the link that is walked after ride i
-unfoldable pub link_after : Network → List Leg → ℕ → Joined
+unfoldable pub link_after : Network → List Leg → ℕ → Option ℕ
 link_after N route i = link_between N (alighted_at (ride_at route i)) (boarded_at (ride_at route (i + 1)))
 
 -- "A given route is 3 bytes per ride: company, boarding, alighting station."
@@ -81,9 +75,9 @@ route_of bytes = list_of (given_ride bytes) (length bytes / 3)
 
 -- ---- a given route judged
 
-unfoldable pub is_sold : Entry → Bool
-is_sold NotSold = false
-is_sold (Sold yen) = true
+unfoldable pub is_sold : Option ℕ → Bool
+is_sold None = false
+is_sold (Some yen) = true
 
 -- "a ride is bad if it doesn't exist"
 unfoldable pub exists : Network → Leg → Bool
@@ -94,9 +88,9 @@ exists N l =
     (both (not (eqb l.boarding l.alighting))
     (is_sold (entry_for N l)))))
 
-unfoldable pub is_link : Joined → Bool
-is_link (ByLink k) = true
-is_link NoLink = false
+unfoldable pub is_link : Option ℕ → Bool
+is_link (Some k) = true
+is_link None = false
 
 -- "can't be reached by a link from the ride before"
 unfoldable pub reached : Network → List Leg → Leg → Bool
@@ -117,7 +111,7 @@ unfoldable pub good_next : Network → List Leg → Leg → Bool
 good_next N before l = both (exists N l) (both (reached N before l) (not (repeats before l)))
 
 unfoldable pub ride_check : Network → List Leg → ℕ → Judged
-ride_check N route i = demand (good_next N (take i route) (ride_at route i)) (BadRide i) Good
+ride_check N route i = demand (good_next N (take i route) (ride_at route i)) (BadRide i) (Ok tt)
 
 -- "a length that isn't 3, 6, 9 or 12 is place 0"
 unfoldable pub good_length : ℕ → Bool

@@ -1,22 +1,20 @@
 -- Document 01, "Price": the selection of discounted runs that counts. Of a rule only what it earns on a run is used.
-use Rattle.std.specs.Prelude.{ℕ, ◌+◌, ◌≤◌, ◌<◌, ◌≡◌, ◌⊎◌, List, [], ◌∷◌, length}
+use Rattle.std.specs.Prelude.{ℕ, ◌+◌, ◌≤◌, ◌<◌, ◌≡◌, ◌⊎◌, Option, Some, None, List, [], ◌∷◌, length}
 use Rattle.outline.specs.declared.Run.{Run}
-use Rattle.outline.specs.declared.Saving.{Saving}
-use Rattle.outline.specs.declared.Saving.TheVariants.{Nothing, Yen}
 use Rattle.outline.specs.Numbers.{least_run, most_run}
 use Rattle.outline.specs.Tests.{Within}
 use Rattle.outline.specs.Lexical.{LexLe}
 
 -- what a rule earns on a run, told by the run's first ride, its number of rides and the rule's number
 abbrev pub Earn : Type 0
-Earn = ℕ → ℕ → ℕ → Saving
+Earn = ℕ → ℕ → ℕ → Option ℕ
 
-abbrev pub earned_by : Earn → Run → Saving
+abbrev pub earned_by : Earn → Run → Option ℕ
 earned_by earn p = earn p.first p.rides p.rule
 
-unfoldable pub yen : Saving → ℕ
-yen Nothing = 0
-yen (Yen y) = y
+unfoldable pub yen : Option ℕ → ℕ
+yen None = 0
+yen (Some y) = y
 
 -- of the n rides of a route, "a run is two to four rides in a row", here none before ride `from`; a rule pays it
 pub record Discounted (earn : Earn) (rules n from : ℕ) (p : Run) : Type 0 where
@@ -24,7 +22,7 @@ pub record Discounted (earn : Earn) (rules n from : ℕ) (p : Run) : Type 0 wher
   pub long : Within least_run p.rides most_run
   pub inside : p.first + p.rides ≤ n
   pub known : p.rule < rules
-  pub pays : earned_by earn p ≡ Nothing → ⊥
+  pub pays : earned_by earn p ≡ None → ⊥
 
 -- "Each ride belongs to at most one discounted run": each run begins where the one before has ended, or after that
 unfoldable pub Apart : Earn → ℕ → ℕ → ℕ → List Run → Type 0

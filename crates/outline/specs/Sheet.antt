@@ -4,7 +4,8 @@ use Rattle.std.specs.Prelude.{ℕ, zero, suc, ◌+◌, ◌*◌, List, [], ◌∷
 use Rattle.outline.specs.declared.Station.{Station}
 use Rattle.outline.specs.declared.Link.{Link}
 use Rattle.outline.specs.Tests.{list_of, in_order, part}
-use Rattle.outline.specs.Fares.{Table, Rule, Fares, table_at, link_at, rule_at}
+use Rattle.outline.specs.declared.Rule.{Rule}
+use Rattle.outline.specs.Fares.{Table, Fares, table_at, link_at, rule_at}
 use Rattle.outline.specs.Network.{Network, network_of}
 
 -- "C, L, R"

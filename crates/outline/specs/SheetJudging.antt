@@ -1,12 +1,10 @@
 -- Document 01, "What is refused, and when": the refusals of a sheet, in the outline's order. "A number above 255 where the book has a byte is
 -- out of range: 3, 5, 7 or 8 by its place": each such number is outside its limits, or tells no station, or is no byte of a map.
-use Rattle.std.specs.Prelude.{ℕ, ◌+◌, List, length, leb, ltb, eqb}
+use Rattle.std.specs.Prelude.{ℕ, ◌+◌, List, length, leb, ltb, eqb, Ok}
 use Rattle.outline.specs.declared.Refusal.TheVariants.{WrongLength, OutsideLimits, BadStations}
-use Rattle.outline.specs.declared.Judged.{Judged}
-use Rattle.outline.specs.declared.Judged.TheVariants.{Good}
 use Rattle.outline.specs.Numbers.{most_companies, least_stations, most_stations, most_links, most_rules}
 use Rattle.outline.specs.Tests.{within}
-use Rattle.outline.specs.Refusals.{demand, ◌and_then◌, first_below}
+use Rattle.outline.specs.Refusals.{demand, ◌and_then◌, first_below, Judged}
 use Rattle.outline.specs.Judging.{fares_check}
 use Rattle.outline.specs.Sheet.{counts_length, companies_in, links_in, rules_in, table_numbers, company_start, stations_in, fare_index, rule_start, fares_in}
 
@@ -17,7 +15,7 @@ counts_check s =
     (demand (within 1 (companies_in s) most_companies) OutsideLimits
     (demand (leb (links_in s) most_links) OutsideLimits
     (demand (leb (rules_in s) most_rules) OutsideLimits
-    Good)))
+    (Ok tt))))
 
 -- "per company a missing n is 1, then 5, then missing fares 1"
 unfoldable pub numbers_check : List ℕ → ℕ → Judged
@@ -25,11 +23,11 @@ numbers_check s c =
     demand (ltb (company_start s c) (length s)) WrongLength
     (demand (within least_stations (stations_in s c) most_stations) (BadStations c)
     (demand (leb (company_start s c + table_numbers (stations_in s c)) (length s)) WrongLength
-    Good))
+    (Ok tt)))
 
 -- "a wrong remainder is 1"
 unfoldable pub remainder_check : List ℕ → Judged
-remainder_check s = demand (eqb (rule_start s (rules_in s)) (length s)) WrongLength Good
+remainder_check s = demand (eqb (rule_start s (rules_in s)) (length s)) WrongLength (Ok tt)
 
 -- 6: "its index in the sheet"
 unfoldable pub entry_index : List ℕ → ℕ → ℕ → ℕ → ℕ

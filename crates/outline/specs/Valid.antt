@@ -3,7 +3,8 @@ use Rattle.std.specs.Prelude.{ℕ, ◌+◌, ◌-◌, ◌*◌, ◌≤◌, ◌<◌
 use Rattle.outline.specs.declared.Link.{Link}
 use Rattle.outline.specs.Numbers.{most_companies, least_stations, most_stations, most_links, most_rules, most_fare, most_amount, least_run, most_run, no_company}
 use Rattle.outline.specs.Tests.{Within}
-use Rattle.outline.specs.Fares.{Table, Rule, Fares, fare_at, table_at, company_at, in_map}
+use Rattle.outline.specs.declared.Rule.{Rule}
+use Rattle.outline.specs.Fares.{Table, Fares, fare_at, table_at, company_at, in_map}
 use Rattle.outline.specs.Network.{Network, network_of}
 use Rattle.outline.specs.Book.{layout_number, company_count, link_count, rule_count, header_length, offset_of, length_of, links_entry, rules_entry, first_body, end_before, body_of, company_length, station_count, link_length, rule_length, fares_of}
 

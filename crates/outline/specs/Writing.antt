@@ -2,7 +2,8 @@
 use Rattle.std.specs.Prelude.{ℕ, ◌+◌, ◌*◌, ◌/◌, ◌%◌, List, [], ◌∷◌, ◌++◌, length, ltb, eqb}
 use Rattle.outline.specs.declared.Link.{Link}
 use Rattle.outline.specs.Tests.{choose, in_order}
-use Rattle.outline.specs.Fares.{Table, Rule, Fares, table_at, link_at, rule_at}
+use Rattle.outline.specs.declared.Rule.{Rule}
+use Rattle.outline.specs.Fares.{Table, Fares, table_at, link_at, rule_at}
 
 -- "Two-byte numbers have the low byte first."
 unfoldable pub two_bytes : ℕ → List ℕ

@@ -2,35 +2,33 @@
 #![tactic(auto)]
 
 // A station: a company of the book and a station of that company.
-#[derive(Clone, Copy)]
+#[derive(Clone, Copy, PartialEq, Eq)]
 pub struct Station {
     pub company: u8,
     pub number: u8,
 }
 
 // A link between two stations. It can be walked either way.
-#[derive(Clone, Copy)]
+#[derive(Clone, Copy, PartialEq, Eq)]
 pub struct Link {
     pub one: Station,
     pub other: Station,
 }
 
-// What joins two stations: a link of this number, or none.
+// A rule as a book or a sheet has it: "m (2 to 4); four company bytes ..; the amount, two bytes; a map of boarding stations of the first
+// company, five bytes; a map of alighting stations of the m-th company, five bytes; a map of permitted links, sixteen bytes".
 #[derive(Clone, Copy)]
-pub enum Joined {
-    ByLink(u8),
-    NoLink,
+pub struct Rule {
+    pub rides: u16,
+    pub companies: [u16; 4],
+    pub amount: u16,
+    pub boarding: [u16; 5],
+    pub alighting: [u16; 5],
+    pub permitted: [u16; 16],
 }
 
-// What a table says of a ride: that none is sold, or its fare in yen.
-#[derive(Clone, Copy)]
-pub enum Entry {
-    NotSold,
-    Sold(u16),
-}
-
-// A ride of a route: a company, the station boarded at and the station alighted at.
-#[derive(Clone, Copy)]
+// A ride of a route: a company, the station boarded at and the station alighted at. Rides are compared in this order.
+#[derive(Clone, Copy, PartialEq, Eq, PartialOrd, Ord)]
 pub struct Leg {
     pub company: u8,
     pub boarding: u8,
@@ -45,7 +43,7 @@ pub struct Run {
     pub rule: u8,
 }
 
-// Whether a rule matches a run: the first test that fails, or what it earns in yen.
+// Why a rule does not match a run: the first test that fails.
 #[derive(Clone, Copy)]
 pub enum Reason {
     WrongRides,
@@ -54,24 +52,16 @@ pub enum Reason {
     NotAlighted,
     NotPermitted,
     NotDearer,
-    Earned(u16),
 }
 
-// What a rule earns on a run.
+// The rule that earns most on a run, and what it earns in yen.
 #[derive(Clone, Copy)]
-pub enum Saving {
-    Nothing,
-    Yen(u16),
+pub struct Payer {
+    pub rule: u8,
+    pub yen: u16,
 }
 
-// The rule that earns most on a run, and what it earns; or that none earns anything.
-#[derive(Clone, Copy)]
-pub enum Payer {
-    Nobody,
-    Pays(u8, u16),
-}
-
-// How a ride was paid for: full, or by a rule of this number.
+// How a ride was paid for: full, or by a rule of this number. It is no Option: `Full` is the outline's word, and `None` would say that nothing was paid.
 #[derive(Clone, Copy)]
 pub enum Paid {
     Full,
@@ -105,19 +95,6 @@ pub enum Refusal {
     BadRide(usize),
 }
 
-#[derive(Clone, Copy)]
-pub enum Judged {
-    Good,
-    Refused(Refusal),
-}
-
-// What a reader or a writer answers: how many numbers or bytes it wrote, or what is refused.
-#[derive(Clone, Copy)]
-pub enum Written {
-    Wrote(usize),
-    NotWritten(Refusal),
-}
-
 // A question: from which station, to which, and how many rides at most.
 #[derive(Clone, Copy)]
 pub struct Question {
@@ -126,10 +103,11 @@ pub struct Question {
     pub limit: u8,
 }
 
-// What a price or a question is answered with: the fare, the number of rides and four places for rides.
+// What a price or a question is answered with: the fare, the number of rides and four places for rides. What was judged stands beside them,
+// since a refused answer carries them too: fare 0, no rides and unused places (`refused_answer`).
 #[derive(Clone, Copy)]
 pub struct Answer {
-    pub judged: Judged,
+    pub judged: Result<(), Refusal>,
     pub fare: u16,
     pub rides: u8,
     pub places: [Ride; 4],

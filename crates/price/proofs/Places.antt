@@ -1,5 +1,6 @@
 -- The places of the answer.
 use Prim.Native.Nat.{ℕ, ◌≤◌, ◌<◌}
+use Rattle.std.proofs.Common.{Ok}
 use mathlib.Core.Path.{◌≡◌, ap, ◌∙◌}
 use mathlib.Core.List.{List, [], ◌∷◌}
 use native.Mathlib.Omega.{arith}
@@ -11,7 +12,6 @@ use Rattle.outline.specs.declared.Ride.{Ride}
 use Rattle.outline.specs.declared.Paid.{Paid}
 use Rattle.outline.specs.declared.Paid.TheVariants.{Full, ByRule}
 use Rattle.outline.specs.declared.Answer.{Answer}
-use Rattle.outline.specs.declared.Judged.TheVariants.{Good}
 use Rattle.outline.specs.Tests.{choose}
 use Rattle.outline.specs.Network.{Network}
 use Rattle.outline.specs.Price.{fare_of, runs_of, belongs, paid_by, paid_ride, unused, place_at, answer_with, answer_of}
@@ -49,7 +49,7 @@ module _ (r : Route) (sized : Sized r) (runs : List Run) (i : ℕ) where
 
 -- an answer is made of its parts
 abbrev made : ℕ → ℕ → Ride → Ride → Ride → Ride → Answer
-made fare rides a b c d = record { judged = Good; fare = fare; rides = rides; places = a ∷ b ∷ c ∷ d ∷ [] }
+made fare rides a b c d = record { judged = Ok tt; fare = fare; rides = rides; places = a ∷ b ∷ c ∷ d ∷ [] }
 
 pub answer_is : (N : Network) (route : List Leg) (runs : List Run) (fare rides : ℕ) (a b c d : Ride)
     → fare ≡ fare_of N route → rides ≡ length route → runs ≡ runs_of N route

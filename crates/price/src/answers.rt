@@ -3,11 +3,11 @@ ghost use Rattle.std.specs.Prelude.{◌≡◌, ◌≤◌};
 ghost use Rattle.outline.specs.Tests.{choose};
 ghost use Rattle.outline.specs.Book.{network};
 ghost use Rattle.outline.specs.Price.{fare_of, belongs, paid_by, unused, place_at, answer_of, refused_answer};
-ghost use Rattle.routes.specs.Held.{rides_of, Sized};
+ghost use Rattle.routes.specs.Held.{rides_of, Sized, Held};
 ghost use Rattle.selection.specs.Chosen.{runs_in};
-ghost use Rattle.price.specs.Priceable.{Priceable};
 
-use outline::{Answer, Judged, Paid, Refusal, Ride, Run};
+use book::good::GoodBook;
+use outline::{Answer, Paid, Refusal, Ride, Run};
 use routes::Route;
 use selection::Selection;
 
@@ -69,25 +69,25 @@ fn place(route: Route, runs: Selection, i: usize) -> Ride
 }
 
 // A route's fare: the sum of entries less what the selection that counts earns.
-pub fn fare(book: &[u8], route: Route) -> u16
-    requires { Priceable book.now route }
-    ensures { result ≡ fare_of (network book.now) (rides_of route) }
+pub fn fare(good: GoodBook, route: Route) -> u16
+    requires { Held (network good.book.bytes.now) route }
+    ensures { result ≡ fare_of (network good.entry.book.bytes.now) (rides_of route) }
 {
-    let sum = matching::sum_of(route, 0, route.count);
-    let runs = selection::best(book, route);
+    let sum = matching::sum(route, 0, route.count);
+    let runs = selection::best(good.book, route);
     (sum - runs.total) as u16
 }
 
 // A route's price.
-pub fn answer(book: &[u8], route: Route) -> Answer
-    requires { Priceable book.now route }
-    ensures { result ≡ answer_of (network book.now) (rides_of route) }
+pub fn answer(good: GoodBook, route: Route) -> Answer
+    requires { Held (network good.book.bytes.now) route }
+    ensures { result ≡ answer_of (network good.entry.book.bytes.now) (rides_of route) }
 {
     let n = route.count;
-    let runs = selection::best(book, route);
+    let runs = selection::best(good.book, route);
     Answer {
-        judged: Judged::Good,
-        fare: fare(book, route),
+        judged: Ok(()),
+        fare: fare(good, route),
         rides: n as u8,
         places: [
             place(route, runs, 0),
@@ -104,7 +104,7 @@ pub fn refused(x: Refusal) -> Answer
 {
     let none = no_ride();
     Answer {
-        judged: Judged::Refused(x),
+        judged: Err(x),
         fare: 0,
         rides: 0,
         places: [none, none, none, none],

@@ -3,42 +3,35 @@
 
 ghost use Rattle.std.specs.Prelude.{◌≡◌};
 ghost use Rattle.outline.specs.Book.{network};
-ghost use Rattle.outline.specs.Valid.{LaidOut};
 ghost use Rattle.outline.specs.Questions.{known, question_check};
 
-use lookup::same_station;
-use outline::{Judged, Question, Refusal, Station};
+use lookup::book::Book;
+use outline::{Question, Refusal, Station};
 
 const MOST_RIDES: u8 = 4;
 
-fn is_known(book: &[u8], x: Station) -> bool
-    requires { LaidOut book.now }
-    ensures { result ≡ known (network book.now) x }
+#[tactic(auto, unfolding(outline::specs::Questions::known, outline::specs::Tests::both))]
+fn is_known(book: Book, x: Station) -> bool
+    ensures { result ≡ known (network book.entry.bytes.now) x }
 {
-    if lookup::companies(book) <= x.company {
-        return false;
-    }
-    x.number < lookup::stations(book, x.company)
+    x.company < book.companies() && x.number < book.stations(x.company)
 }
 
-pub fn judge(book: &[u8], question: Question) -> Judged
-    requires { LaidOut book.now }
-    ensures { result ≡ question_check (network book.now) question }
+#[tactic(auto, unfolding(outline::specs::Questions::question_check, outline::specs::Refusals::demand, outline::specs::Network::same_station, outline::specs::Tests::both, outline::specs::Tests::within))]
+pub fn judge(book: Book, question: Question) -> Result<(), Refusal>
+    ensures { result ≡ question_check (network book.entry.bytes.now) question }
 {
     if !is_known(book, question.from) {
-        return Judged::Refused(Refusal::UnknownStation(0));
+        return Err(Refusal::UnknownStation(0));
     }
     if !is_known(book, question.to) {
-        return Judged::Refused(Refusal::UnknownStation(1));
+        return Err(Refusal::UnknownStation(1));
     }
-    if same_station(question.from, question.to) {
-        return Judged::Refused(Refusal::SameStation);
+    if question.from == question.to {
+        return Err(Refusal::SameStation);
     }
-    if question.limit < 1 {
-        return Judged::Refused(Refusal::BadLimit);
+    if !(1..=MOST_RIDES).contains(&question.limit) {
+        return Err(Refusal::BadLimit);
     }
-    if MOST_RIDES < question.limit {
-        return Judged::Refused(Refusal::BadLimit);
-    }
-    Judged::Good
+    Ok(())
 }

@@ -1,46 +1,33 @@
--- What a laid-out book tells the reader of the parts of its sheet: how long they are, and that a sheet with room for all has room for each.
+-- What a laid-out book tells the reader of the parts of its sheet: how long they are.
 use Prim.Native.Nat.{ℕ, ◌+◌, ◌*◌, ◌≤◌, ◌<◌}
-use mathlib.Core.Path.{◌≡◌, sym}
+use mathlib.Core.Path.{◌≡◌, sym, ap, ◌∙◌}
 use mathlib.Core.List.{List}
 use lib.ListN.{length}
 use native.Mathlib.Omega.{arith}
 use Rattle.outline.specs.Tests.{in_order}
 use Rattle.outline.specs.Fares.{table_at}
-use Rattle.outline.specs.Book.{company_count, body_of, station_count, table_of, fares_of}
+use Rattle.outline.specs.Book.{company_count, link_count, rule_count, body_of, station_count, table_of, fares_of}
 use Rattle.outline.specs.Valid.{LaidOut}
 use Rattle.outline.specs.Sheet.{table_numbers, table_sheet, tables_sheet, links_sheet, rules_sheet, sheet_of}
 use Rattle.laws.proofs.Reading.{company_long}
 use Rattle.layout.specs.Bodies.{CompanySized}
 use Rattle.filling.proofs.InOrder.{order_room}
 use Rattle.filling.proofs.Sizes.{table_sheet_length}
-use Rattle.filling.proofs.Whole.{book_whole, tables_of, table_of_lem, stations_of_lem, tables_sheet_most, links_sheet_length, rules_sheet_length, sheet_length}
-
--- the companies have so many numbers and the links so many, of a sheet in a list with so much room
-pub record Parts (b : List ℕ) (tables changes room : ℕ) : Type 0 where
-  pub companies : tables ≡ length (tables_sheet (fares_of b))
-  pub most : length (tables_sheet (fares_of b)) ≤ 25616
-  pub links : changes ≡ 4 * length (fares_of b).links
-  pub links_long : length (links_sheet (fares_of b)) ≡ 4 * length (fares_of b).links
-  pub rules_long : length (rules_sheet (fares_of b)) ≡ 32 * length (fares_of b).rules
-  pub all : length (sheet_of (fares_of b)) ≡ 3 + length (tables_sheet (fares_of b)) + 4 * length (fares_of b).links + 32 * length (fares_of b).rules
-  pub fits : length (sheet_of (fares_of b)) ≤ room
-
-pub parts : (b : List ℕ) (tables changes room : ℕ) → LaidOut b → tables ≡ length (tables_sheet (fares_of b)) → changes ≡ 4 * length (fares_of b).links
-    → length (sheet_of (fares_of b)) ≤ room → Parts b tables changes room
-parts b tables changes room laid t l h =
-    let whole = book_whole b laid in
-    record {
-      companies = t;
-      most = tables_sheet_most (fares_of b) whole;
-      links = l;
-      links_long = links_sheet_length (fares_of b) whole;
-      rules_long = rules_sheet_length (fares_of b) whole;
-      all = sheet_length (fares_of b) whole;
-      fits = h;
-    }
+use Rattle.filling.proofs.Whole.{book_whole, tables_of, links_of, rules_of, table_of_lem, stations_of_lem, tables_sheet_most, links_sheet_length, rules_sheet_length, sheet_length}
 
 pub tables_few : (b : List ℕ) → LaidOut b → length (tables_sheet (fares_of b)) ≤ 25616
 tables_few b laid = tables_sheet_most (fares_of b) (book_whole b laid)
+
+pub links_long_of : (b : List ℕ) → LaidOut b → length (links_sheet (fares_of b)) ≡ 4 * link_count b
+links_long_of b laid = links_sheet_length (fares_of b) (book_whole b laid) ∙ ap (λ (n : ℕ). 4 * n) (links_of b)
+
+pub sheet_long : (b : List ℕ) → LaidOut b → length (sheet_of (fares_of b)) ≡ 3 + length (tables_sheet (fares_of b)) + length (links_sheet (fares_of b)) + length (rules_sheet (fares_of b))
+sheet_long b laid =
+    let whole = book_whole b laid in
+    omega (arith, sheet_length (fares_of b) whole, links_sheet_length (fares_of b) whole, rules_sheet_length (fares_of b) whole)
+
+pub rules_long_of : (b : List ℕ) → LaidOut b → length (rules_sheet (fares_of b)) ≡ 32 * rule_count b
+rules_long_of b laid = rules_sheet_length (fares_of b) (book_whole b laid) ∙ ap (λ (n : ℕ). 32 * n) (rules_of b)
 
 -- ---- a turn of a loop over the companies, the links or the rules
 

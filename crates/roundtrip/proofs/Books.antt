@@ -10,7 +10,8 @@ use lib.ListN.{length, get_or, take, drop, length-append, length-drop}
 use lib.Seq.{drop-drop, drop_at, drop-cons, get_or-drop}
 use Rattle.outline.specs.declared.Link.{Link}
 use Rattle.outline.specs.Tests.{in_order, part}
-use Rattle.outline.specs.Fares.{Table, Rule, Fares, table_at, link_at, rule_at, no_table, no_link, no_rule}
+use Rattle.outline.specs.declared.Rule.{Rule}
+use Rattle.outline.specs.Fares.{Table, Fares, table_at, link_at, rule_at, no_table, no_link, no_rule}
 use Rattle.outline.specs.Book.{word_at, layout_number, company_count, link_count, rule_count, offset_of, length_of, links_entry, rules_entry, end_before, body_of, company_length, station_count, table_of, link_of, rule_length, rule_of, fares_of}
 use Rattle.outline.specs.Valid.{Body, CompanyBody, LaidOut, Bytes}
 use Rattle.outline.specs.Sheet.{link_in, link_sheet}

@@ -6,7 +6,8 @@ use native.Mathlib.Omega.{arith}
 use lib.ListN.{length, get_or, drop, length-append}
 use Rattle.outline.specs.declared.Link.{Link}
 use Rattle.outline.specs.Tests.{in_order, part}
-use Rattle.outline.specs.Fares.{Table, Rule, Fares, table_at, link_at, rule_at, no_table, no_link, no_rule}
+use Rattle.outline.specs.declared.Rule.{Rule}
+use Rattle.outline.specs.Fares.{Table, Fares, table_at, link_at, rule_at, no_table, no_link, no_rule}
 use Rattle.outline.specs.Sheet.{companies_in, links_in, rules_in, table_numbers, company_start, stations_in, table_in, link_start, link_in, rule_start, rule_in, fares_in, table_sheet, link_sheet, rule_sheet, counts_sheet, tables_sheet, links_sheet, rules_sheet, sheet_of}
 use Rattle.outline.specs.SheetValid.{CompanyNumbers, SheetLaidOut}
 use Rattle.laws.proofs.Reading.{part_more, part_one, RuleSized}

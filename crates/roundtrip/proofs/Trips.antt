@@ -1,6 +1,8 @@
 -- Both round trips, in the words of the definitions and then in the words of the contracts of `read` and `write`; and that each contract
 -- allows one answer and one memory.
 use Prim.Native.Nat.{ℕ, ◌≤◌}
+use Rattle.outline.specs.Refusals.{Judged}
+use Rattle.std.proofs.Common.{Ok, Err}
 use mathlib.Core.Path.{◌≡◌, refl, sym, ap, ap₂, ◌∙◌}
 use mathlib.Core.Bool.{Bool, true, false}
 use mathlib.Core.List.{List}
@@ -10,10 +12,6 @@ use lib.Dec.{leb}
 use borrow.Author.Tests.{leb-true, le-leb}
 use Rattle.outline.specs.declared.Refusal.{Refusal}
 use Rattle.outline.specs.declared.Refusal.TheVariants.{NoRoom}
-use Rattle.outline.specs.declared.Judged.{Judged}
-use Rattle.outline.specs.declared.Judged.TheVariants.{Good, Refused}
-use Rattle.outline.specs.declared.Written.{Written}
-use Rattle.outline.specs.declared.Written.TheVariants.{Wrote, NotWritten}
 use Rattle.outline.specs.Tests.{choose}
 use Rattle.outline.specs.Book.{fares_of}
 use Rattle.outline.specs.Valid.{ValidBook, Bytes}
@@ -22,7 +20,7 @@ use Rattle.outline.specs.Sheet.{fares_in, sheet_of}
 use Rattle.outline.specs.SheetValid.{ValidSheet}
 use Rattle.outline.specs.SheetJudging.{sheet_check}
 use Rattle.outline.specs.Writing.{book_of}
-use Rattle.outline.specs.Lending.{answered, filled, leaves, read_answer, read_leaves, write_answer, write_leaves}
+use Rattle.outline.specs.Lending.{answered, filled, leaves, read_answer, read_leaves, write_answer, write_leaves, Written}
 use Rattle.laws.proofs.Judging.{book_good}
 use Rattle.laws.proofs.Sheet.{sheet_good}
 use Rattle.filling.proofs.Filled.{filled_front, length-filled}
@@ -66,14 +64,14 @@ one_writing p q = (p.answer ∙ sym q.answer, p.memory ∙ sym q.memory)
 
 -- a valid book read with room enough, and a valid sheet written with room enough
 pub read_whole : (b lent : List ℕ) → ValidBook b → length (sheet_of (fares_of b)) ≤ length lent
-    → Reads b lent (Wrote (length (sheet_of (fares_of b)))) (filled (sheet_of (fares_of b)) lent)
+    → Reads b lent (Ok (length (sheet_of (fares_of b)))) (filled (sheet_of (fares_of b)) lent)
 unfolding read_answer read_leaves
 read_whole b lent valid room =
     let w = answers_wrote (book_check b) (sheet_of (fares_of b)) lent ((book_good b).1 valid) room in
     record { answer = w.0; memory = w.1 }
 
 pub write_whole : (s lent : List ℕ) → ValidSheet s → length (book_of (fares_in s)) ≤ length lent
-    → Writes s lent (Wrote (length (book_of (fares_in s)))) (filled (book_of (fares_in s)) lent)
+    → Writes s lent (Ok (length (book_of (fares_in s)))) (filled (book_of (fares_in s)) lent)
 unfolding write_answer write_leaves
 write_whole s lent valid room =
     let w = answers_wrote (sheet_check s) (book_of (fares_in s)) lent ((sheet_good s).1 valid) room in
@@ -81,58 +79,58 @@ write_whole s lent valid room =
 
 -- Every valid sheet, written with room enough, is a valid book that reads back as the same sheet.
 pub sheet_trip : (s book sheet book' sheet' : List ℕ) (r : Written) → ValidSheet s → length (book_of (fares_in s)) ≤ length book → length s ≤ length sheet
-    → Writes s book (Wrote (length (book_of (fares_in s)))) book' → Reads (take (length (book_of (fares_in s))) book') sheet r sheet'
-    → ValidBook (take (length (book_of (fares_in s))) book') × (r ≡ Wrote (length s)) × (sheet' ≡ filled s sheet)
+    → Writes s book (Ok (length (book_of (fares_in s)))) book' → Reads (take (length (book_of (fares_in s))) book') sheet r sheet'
+    → ValidBook (take (length (book_of (fares_in s))) book') × (r ≡ Ok (length s)) × (sheet' ≡ filled s sheet)
 sheet_trip s book sheet book' sheet' r valid room room' w q =
     let t = sheet_there_and_back s valid in
     let cut : take (length (book_of (fares_in s))) book' ≡ book_of (fares_in s) =
     ap (take (length (book_of (fares_in s)))) (one_writing w (write_whole s book valid room)).1 ∙ filled_front (book_of (fares_in s)) book in
     let one = one_reading (rw cut at q) (read_whole (book_of (fares_in s)) sheet t.0 (rw t.1 room')) in
-    (rw cut t.0, one.0 ∙ ap (λ (x : List ℕ). Wrote (length x)) t.1, one.1 ∙ ap (λ (x : List ℕ). filled x sheet) t.1)
+    (rw cut t.0, one.0 ∙ ap (λ (x : List ℕ). Ok (length x)) t.1, one.1 ∙ ap (λ (x : List ℕ). filled x sheet) t.1)
 
 -- Every valid book, read with room enough and written again, is the same book byte for byte; and what was read is a valid sheet.
 pub book_trip : (b sheet book sheet' book' : List ℕ) (r : Written) → ValidBook b → Bytes b → length (sheet_of (fares_of b)) ≤ length sheet → length b ≤ length book
-    → Reads b sheet (Wrote (length (sheet_of (fares_of b)))) sheet' → Writes (take (length (sheet_of (fares_of b))) sheet') book r book'
-    → ValidSheet (take (length (sheet_of (fares_of b))) sheet') × (r ≡ Wrote (length b)) × (book' ≡ filled b book)
+    → Reads b sheet (Ok (length (sheet_of (fares_of b)))) sheet' → Writes (take (length (sheet_of (fares_of b))) sheet') book r book'
+    → ValidSheet (take (length (sheet_of (fares_of b))) sheet') × (r ≡ Ok (length b)) × (book' ≡ filled b book)
 book_trip b sheet book sheet' book' r valid bytes room room' w q =
     let t = book_there_and_back b valid bytes in
     let cut : take (length (sheet_of (fares_of b))) sheet' ≡ sheet_of (fares_of b) =
     ap (take (length (sheet_of (fares_of b)))) (one_reading w (read_whole b sheet valid room)).1 ∙ filled_front (sheet_of (fares_of b)) sheet in
     let one = one_writing (rw cut at q) (write_whole (sheet_of (fares_of b)) book t.0 (rw t.1 room')) in
-    (rw cut t.0, one.0 ∙ ap (λ (x : List ℕ). Wrote (length x)) t.1, one.1 ∙ ap (λ (x : List ℕ). filled x book) t.1)
+    (rw cut t.0, one.0 ∙ ap (λ (x : List ℕ). Ok (length x)) t.1, one.1 ∙ ap (λ (x : List ℕ). filled x book) t.1)
 
 -- ---- what an answer tells
 
-not_written : (j : Judged) (result lent : List ℕ) (x : Refusal) → answered j result lent ≡ NotWritten x → where_good j (leb (length result) (length lent)) false ≡ false
+not_written : (j : Judged) (result lent : List ℕ) (x : Refusal) → answered j result lent ≡ Err x → where_good j (leb (length result) (length lent)) false ≡ false
 unfolding answered choose where_good
-not_written Good result lent x e = go (leb (length result) (length lent)) e
+not_written (Ok _) result lent x e = go (leb (length result) (length lent)) e
   where
-    go : (t : Bool) → choose t (Wrote (length result)) (NotWritten NoRoom) ≡ NotWritten x → t ≡ false
+    go : (t : Bool) → choose t (Ok (length result)) (Err NoRoom) ≡ Err x → t ≡ false
     go true e = absurd (let z : ◌≡◌ {A = ℕ} 0 1 = cc in omega arith)
     go false e = refl
-not_written (Refused y) result lent x e = refl
+not_written (Err y) result lent x e = refl
 
-never_both : {x : Refusal} {n : ℕ} → NotWritten x ≡ Wrote n → ⊥
+never_both : {x : Refusal} {n : ℕ} → ◌≡◌ {A = Written} (Err x) (Ok n) → ⊥
 never_both e = let z : ◌≡◌ {A = ℕ} 0 1 = cc in omega arith
 
-wrote_tells : (j : Judged) (result lent : List ℕ) (n : ℕ) → answered j result lent ≡ Wrote n → (j ≡ Good) × (length result ≤ length lent) × (n ≡ length result)
+wrote_tells : (j : Judged) (result lent : List ℕ) (n : ℕ) → answered j result lent ≡ Ok n → (j ≡ Ok tt) × (length result ≤ length lent) × (n ≡ length result)
 unfolding answered choose
-wrote_tells Good result lent n e = go (leb (length result) (length lent)) refl e
+wrote_tells (Ok _) result lent n e = let w = go (leb (length result) (length lent)) refl e in (refl, w.0, w.1)
   where
-    go : (t : Bool) → leb (length result) (length lent) ≡ t → choose t (Wrote (length result)) (NotWritten NoRoom) ≡ Wrote n → (Good ≡ Good) × (length result ≤ length lent) × (n ≡ length result)
-    go true p e = (refl, leb-true _ _ p, cc)
+    go : (t : Bool) → leb (length result) (length lent) ≡ t → ◌≡◌ {A = Written} (choose t (Ok (length result)) (Err NoRoom)) (Ok n) → (length result ≤ length lent) × (n ≡ length result)
+    go true p e = (leb-true _ _ p, cc)
     go false p e = absurd (never_both e)
-wrote_tells (Refused x) result lent n e = absurd (never_both e)
+wrote_tells (Err x) result lent n e = absurd (never_both e)
 
 -- where something was written, it is the result, at the front
 pub record Told (j : Judged) (result lent : List ℕ) (n : ℕ) (after : List ℕ) : Type 0 where
-  pub good : j ≡ Good
+  pub good : j ≡ Ok tt
   pub room : length result ≤ length lent
   pub fits : n ≤ length after
   pub front : take n after ≡ result
   pub memory : after ≡ filled result lent
 
-pub told_wrote : (j : Judged) (result lent after : List ℕ) (r : Written) (n : ℕ) → Answers j result lent r after → r ≡ Wrote n → Told j result lent n after
+pub told_wrote : (j : Judged) (result lent after : List ℕ) (r : Written) (n : ℕ) → Answers j result lent r after → r ≡ Ok n → Told j result lent n after
 unfolding leaves
 told_wrote j result lent after r n a e =
     let w = wrote_tells j result lent n (sym a.0 ∙ e) in
@@ -146,39 +144,39 @@ told_wrote j result lent after r n a e =
     }
 
 -- where nothing was written, the lent list is as it was
-pub told_not : (j : Judged) (result lent after : List ℕ) (r : Written) (x : Refusal) → Answers j result lent r after → r ≡ NotWritten x
+pub told_not : (j : Judged) (result lent after : List ℕ) (r : Written) (x : Refusal) → Answers j result lent r after → r ≡ Err x
     → (where_good j (leb (length result) (length lent)) false ≡ false) × (after ≡ lent)
 unfolding leaves
 told_not j result lent after r x a e = (bad j (sym a.0 ∙ e), a.1 ∙ ap (λ (y : Written). leaves y result lent) (sym a.0 ∙ e))
   where
-    bad : (k : Judged) → answered k result lent ≡ NotWritten x → where_good k (leb (length result) (length lent)) false ≡ false
+    bad : (k : Judged) → answered k result lent ≡ Err x → where_good k (leb (length result) (length lent)) false ≡ false
     bad k = not_written k result lent x
 
 -- ---- the second half of each round trip
 
-pub sheet_came : (s b lent after : List ℕ) (r : Written) → ValidSheet s → b ≡ book_of (fares_in s) → r ≡ read_answer b lent → after ≡ read_leaves b lent → Answers Good s lent r after
+pub sheet_came : (s b lent after : List ℕ) (r : Written) → ValidSheet s → b ≡ book_of (fares_in s) → r ≡ read_answer b lent → after ≡ read_leaves b lent → Answers (Ok tt) s lent r after
 unfolding read_answer read_leaves
 sheet_came s b lent after r valid e p q =
     let t = sheet_there_and_back s valid in
-    let good : book_check b ≡ Good = ap book_check e ∙ (book_good _).1 t.0 in
+    let good : book_check b ≡ Ok tt = ap book_check e ∙ (book_good _).1 t.0 in
     let same : sheet_of (fares_of b) ≡ s = ap (λ (x : List ℕ). sheet_of (fares_of x)) e ∙ t.1 in
     (p ∙ ap₂ (λ (j : Judged) (x : List ℕ). answered j x lent) good same, q ∙ ap₂ (λ (j : Judged) (x : List ℕ). leaves (answered j x lent) x lent) good same)
 
-pub book_came : (b s lent after : List ℕ) (r : Written) → ValidBook b → Bytes b → s ≡ sheet_of (fares_of b) → r ≡ write_answer s lent → after ≡ write_leaves s lent → Answers Good b lent r after
+pub book_came : (b s lent after : List ℕ) (r : Written) → ValidBook b → Bytes b → s ≡ sheet_of (fares_of b) → r ≡ write_answer s lent → after ≡ write_leaves s lent → Answers (Ok tt) b lent r after
 unfolding write_answer write_leaves
 book_came b s lent after r valid bytes e p q =
     let t = book_there_and_back b valid bytes in
-    let good : sheet_check s ≡ Good = ap sheet_check e ∙ (sheet_good _).1 t.0 in
+    let good : sheet_check s ≡ Ok tt = ap sheet_check e ∙ (sheet_good _).1 t.0 in
     let same : book_of (fares_in s) ≡ b = ap (λ (x : List ℕ). book_of (fares_in x)) e ∙ t.1 in
     (p ∙ ap₂ (λ (j : Judged) (x : List ℕ). answered j x lent) good same, q ∙ ap₂ (λ (j : Judged) (x : List ℕ). leaves (answered j x lent) x lent) good same)
 
 -- what came back is there where there was room, and else nothing was written
-pub came_not : (s lent after : List ℕ) (r : Written) (x : Refusal) → Answers Good s lent r after → r ≡ NotWritten x
+pub came_not : (s lent after : List ℕ) (r : Written) (x : Refusal) → Answers (Ok tt) s lent r after → r ≡ Err x
     → (false ≡ leb (length s) (length lent)) × (after ≡ choose (leb (length s) (length lent)) (filled s lent) lent)
 unfolding where_good choose
-came_not s lent after r x a e = let t = told_not Good s lent after r x a e in rw t.0 (refl, t.1)
+came_not s lent after r x a e = let t = told_not (Ok tt) s lent after r x a e in rw t.0 (refl, t.1)
 
-pub came_back : (s lent after : List ℕ) (r : Written) (n : ℕ) → Answers Good s lent r after → r ≡ Wrote n
+pub came_back : (s lent after : List ℕ) (r : Written) (n : ℕ) → Answers (Ok tt) s lent r after → r ≡ Ok n
     → (true ≡ leb (length s) (length lent)) × (after ≡ choose (leb (length s) (length lent)) (filled s lent) lent)
 unfolding choose
-came_back s lent after r n a e = let t = told_wrote Good s lent after r n a e in rw (le-leb _ _ t.room) (refl, t.memory)
+came_back s lent after r n a e = let t = told_wrote (Ok tt) s lent after r n a e in rw (le-leb _ _ t.room) (refl, t.memory)

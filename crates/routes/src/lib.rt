@@ -3,33 +3,25 @@
 
 pub mod given;
 
-ghost use Rattle.std.specs.Prelude.{◌≡◌, ◌<◌, true, []};
+ghost use Rattle.std.specs.Prelude.{◌≡◌, ◌<◌, [], Some};
 ghost use Rattle.outline.specs.Book.{network};
-ghost use Rattle.outline.specs.Valid.{LaidOut};
 ghost use Rattle.outline.specs.Network.{Network};
-ghost use Rattle.outline.specs.declared.Joined.TheVariants.{ByLink};
 ghost use Rattle.outline.specs.Routes.{boarded_at, alighted_at, met, meets, repeats};
 ghost use Rattle.routes.specs.Held.{rides_of, Sized, Held, pushed, sold_for, Reached, Extended};
 
-use lookup::same_station;
-use outline::{Entry, Joined, Leg, Station};
+use lookup::book::Book;
+use outline::{Leg, Station};
 
-pub const MOST_RIDES: usize = 4;
-
-// Up to four rides, what each costs, and the link by which each but the first is reached.
+// Up to four rides, what each costs, and the link by which each but the first is reached. Memory is fixed, so there are four places and a count.
+// The three lists stand apart so that rides are compared (`best::order`) and matched with a rule's companies as one slice of legs.
+// That the count is at most four (`Sized`) stands in contracts: `pushed` makes a route of any, and a ghost field would ask it for a proof.
+// So does that a route is held of a book (`Held`): a type with the book in it would have to be shown at each call to hold the same book.
 #[derive(Clone, Copy)]
 pub struct Route {
     pub legs: [Leg; 4],
     pub fares: [u16; 4],
     pub links: [u8; 4],
     pub count: usize,
-}
-
-// A route with one more ride, where that ride is good; else the route as it was.
-#[derive(Clone, Copy)]
-pub struct Step {
-    pub good: bool,
-    pub route: Route,
 }
 
 pub fn boarded(l: Leg) -> Station
@@ -50,44 +42,33 @@ pub fn alighted(l: Leg) -> Station
     }
 }
 
-// What is sold for a ride, where it exists.
-pub fn sold(book: &[u8], l: Leg) -> Entry
-    requires { LaidOut book.now }
-    ensures { result ≡ sold_for (network book.now) l }
+// What a ride costs in yen, where it exists.
+pub fn sold(book: Book, l: Leg) -> Option<u16>
+    ensures { result ≡ sold_for (network book.entry.bytes.now) l }
 {
-    if lookup::companies(book) <= l.company {
-        return Entry::NotSold;
+    if book.companies() <= l.company {
+        return None;
     }
-    let n = lookup::stations(book, l.company);
-    if n <= l.boarding {
-        return Entry::NotSold;
+    let n = book.stations(l.company);
+    if n <= l.boarding || n <= l.alighting || l.boarding == l.alighting {
+        return None;
     }
-    if n <= l.alighting {
-        return Entry::NotSold;
-    }
-    if l.boarding == l.alighting {
-        return Entry::NotSold;
-    }
-    lookup::entry(book, l.company, l.boarding, l.alighting)
+    book.entry(l.company, l.boarding, l.alighting)
 }
 
+#[tactic(auto, unfolding(outline::specs::Routes::met, outline::specs::Network::same_station, outline::specs::Tests::either, outline::specs::Tests::both))]
 fn met_at(earlier: Leg, x: Station) -> bool
     ensures { result ≡ met earlier x }
 {
-    if same_station(boarded(earlier), x) {
-        return true;
-    }
-    same_station(alighted(earlier), x)
+    boarded(earlier) == x || alighted(earlier) == x
 }
 
 // Whether two rides have a station in common.
+#[tactic(auto, unfolding(outline::specs::Routes::meets, outline::specs::Tests::either))]
 fn share(earlier: Leg, l: Leg) -> bool
     ensures { result ≡ meets earlier l }
 {
-    if met_at(earlier, boarded(l)) {
-        return true;
-    }
-    met_at(earlier, alighted(l))
+    met_at(earlier, boarded(l)) || met_at(earlier, alighted(l))
 }
 
 impl Route {
@@ -108,23 +89,16 @@ impl Route {
     }
 
     // This route with one more ride, what it costs and the link by which it is reached.
-    pub fn push(self, l: Leg, fare: u16, link: u8) -> Route
+    pub fn push(mut self, l: Leg, fare: u16, link: u8) -> Route
         requires { Sized self × (self.count < 4) }
         ensures { result ≡ pushed self l fare link }
     {
         let n = self.count;
-        let mut legs = self.legs;
-        legs[n] = l;
-        let mut fares = self.fares;
-        fares[n] = fare;
-        let mut links = self.links;
-        links[n] = link;
-        Route {
-            legs,
-            fares,
-            links,
-            count: n + 1,
-        }
+        self.legs[n] = l;
+        self.fares[n] = fare;
+        self.links[n] = link;
+        self.count = n + 1;
+        self
     }
 
     // Whether a ride brings a station already met.
@@ -132,67 +106,44 @@ impl Route {
         requires { Sized self }
         ensures { result ≡ repeats (rides_of self) l }
     {
-        let n = self.count;
-        let mut j: usize = 0;
-        while j < n {
-            let earlier = self.legs[j];
-            if share(earlier, l) {
-                return true;
-            }
-            j += 1;
-        }
-        false
+        self.legs[..self.count]
+            .iter()
+            .any(|earlier| share(*earlier, l))
     }
 
-    // The link from the last ride to a ride, or none; the first ride needs no link.
+    // The link from the last ride to a ride, where there is one; the first ride needs no link.
     #[tactic(auto, using(crate::proofs::Rides::reach_from_none))]
-    fn reach(self, book: &[u8], l: Leg) -> Joined
-        requires { LaidOut book.now × Sized self }
-        ensures { Reached (network book.now) (rides_of self) l result }
+    fn reach(self, book: Book, l: Leg) -> Option<u8>
+        requires { Sized self }
+        ensures { Reached (network book.entry.bytes.now) (rides_of self) l result }
     {
         let n = self.count;
         if n == 0 {
-            return Joined::ByLink(0);
+            return Some(0);
         }
         let last = self.legs[n - 1];
-        lookup::link_between(book, alighted(last), boarded(l))
+        book.link_between(alighted(last), boarded(l))
     }
 
     // This route with one more ride, reached by this link, where that ride is good.
-    pub fn by_link(self, book: &[u8], l: Leg, link: u8) -> Step
-        requires laid_out { LaidOut book.now × Held (network book.now) self × (self.count < 4) }
-        requires reached { Reached (network book.now) (rides_of self) l (ByLink link) }
-        ensures { Extended (network book.now) self l result }
+    pub fn by_link(self, book: Book, l: Leg, link: u8) -> Option<Route>
+        requires held { Held (network book.bytes.now) self × (self.count < 4) }
+        requires reached { Reached (network book.bytes.now) (rides_of self) l (Some link) }
+        ensures { Extended (network book.entry.bytes.now) self l result }
     {
-        let no = Step {
-            good: false,
-            route: self,
-        };
-        let entry = sold(book, l);
-        let Entry::Sold(fare) = entry else {
-            return no;
-        };
+        let fare = sold(book, l)?;
         if self.repeats(l) {
-            return no;
+            return None;
         }
-        Step {
-            good: true,
-            route: self.push(l, fare, link),
-        }
+        Some(self.push(l, fare, link))
     }
 
     // This route with one more ride, where that ride is good.
-    pub fn then(self, book: &[u8], l: Leg) -> Step
-        requires { LaidOut book.now × Held (network book.now) self × (self.count < 4) }
-        ensures { Extended (network book.now) self l result }
+    pub fn then(self, book: Book, l: Leg) -> Option<Route>
+        requires { Held (network book.bytes.now) self × (self.count < 4) }
+        ensures { Extended (network book.entry.bytes.now) self l result }
     {
-        let change = self.reach(book, l);
-        let Joined::ByLink(link) = change else {
-            return Step {
-                good: false,
-                route: self,
-            };
-        };
+        let link = self.reach(book, l)?;
         self.by_link(book, l, link)
     }
 }

@@ -1,5 +1,7 @@
 -- The rows, one after the other, are the pair lister's output: every row once, in order, and then no more.
 use Prim.Native.Nat.{ℕ, zero, suc, ◌+◌, ◌*◌, ◌-◌, ◌≤◌, ◌<◌}
+use Rattle.outline.specs.Refusals.{Judged}
+use Rattle.std.proofs.Common.{Ok, Err}
 use mathlib.Core.Path.{◌≡◌, refl, sym, ap, ◌∙◌}
 use mathlib.Core.Bool.{Bool, true, false}
 use mathlib.Core.List.{List, [], ◌++◌, append-nil, append_assoc}
@@ -9,8 +11,6 @@ use lib.ListN.{take}
 use borrow.Author.Tests.{ltb-true, ltb-false}
 use Rattle.outline.specs.declared.Station.{Station}
 use Rattle.outline.specs.declared.Refusal as why
-use Rattle.outline.specs.declared.Judged.{Judged}
-use Rattle.outline.specs.declared.Judged.TheVariants.{Good, Refused}
 use Rattle.outline.specs.Tests.{choose, in_order}
 use Rattle.outline.specs.Network.{Network}
 use Rattle.outline.specs.Book.{network}
@@ -56,8 +56,8 @@ unfolding Due first_row
 due_first b = go (book_check b) refl
   where
     go : (j : Judged) → book_check b ≡ j → Due b (first_row j)
-    go Good e = let v = (book_good b).0 e in (v, first_known b v)
-    go (Refused x) e = tt
+    go (Ok _) e = let v = (book_good b).0 e in (v, first_known b v)
+    go (Err x) e = tt
 
 pub due_after : (b : List ℕ) (row : Row) → Due b row → Due b (row_after (network b) row)
 unfolding Due row_after
@@ -164,10 +164,10 @@ unfolding first_row lines_of in_order
 rows_are_lines b n h = go (book_check b) refl
   where
     go : (j : Judged) → book_check b ≡ j → rows_text (network b) n (first_row j) ≡ lines_of j (network b)
-    go Good e =
+    go (Ok _) e =
         let v = (book_good b).0 e in
         rest b v n (station 0 0) (first_known b v) (left_first n h) ∙ sym (all_as_put (network b))
-    go (Refused x) e = only_refused (network b) x n (omega arith)
+    go (Err x) e = only_refused (network b) x n (omega arith)
 
 -- "Input over 65,536 bytes is judged by its first 65,536."
 pub rows_are_output : (input : List ℕ) → rows_text (network (take 65536 input)) 641 (first_row (book_check (take 65536 input))) ≡ lister_output input

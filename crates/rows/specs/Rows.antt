@@ -1,8 +1,7 @@
 -- The rows of the pair lister's output, and the order in which they are put.
-use Rattle.std.specs.Prelude.{ℕ, zero, suc, ◌+◌, Bool, true, false, List, [], ◌++◌, ltb}
+use Rattle.std.specs.Prelude.{ℕ, zero, suc, ◌+◌, Bool, true, false, List, [], ◌++◌, ltb, Ok, Err}
+use Rattle.outline.specs.Refusals.{Judged}
 use Rattle.outline.specs.declared.Station.{Station}
-use Rattle.outline.specs.declared.Judged.{Judged}
-use Rattle.outline.specs.declared.Judged.TheVariants.{Good, Refused}
 use Rattle.outline.specs.Tests.{choose}
 use Rattle.outline.specs.Network.{Network}
 use Rattle.outline.specs.Book.{network}
@@ -15,8 +14,8 @@ use Rattle.rows.specs.declared.Row.TheVariants.{Refusal, From, End}
 
 -- a good book's rows begin with its first station; "A refused book gives one line"
 unfoldable pub first_row : Judged → Row
-first_row Good = From (station 0 0)
-first_row (Refused x) = Refusal x
+first_row (Ok _) = From (station 0 0)
+first_row (Err x) = Refusal x
 
 -- whether there is something to put
 unfoldable pub is_row : Row → Bool

@@ -2,7 +2,8 @@
 use Rattle.std.specs.Prelude.{◌-◌, ◌<◌}
 use Rattle.outline.specs.Numbers.{least_run, most_run}
 use Rattle.outline.specs.Tests.{Within}
-use Rattle.outline.specs.Fares.{Rule, company_at}
+use Rattle.outline.specs.declared.Rule.{Rule}
+use Rattle.outline.specs.Fares.{company_at}
 use Rattle.outline.specs.Network.{Network}
 
 -- a rule's rides are two to four, and its first and last company exist

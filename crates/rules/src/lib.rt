@@ -1,142 +1,117 @@
-// The rules: the first bad one.
+// The rules of a book or a sheet: the first bad one.
 #![tactic(auto)]
 
-ghost use Rattle.std.specs.Prelude.{◌≡◌, ◌≤◌, ◌<◌, length};
+ghost use Rattle.std.specs.Prelude.{◌≡◌, ◌*◌, ◌≤◌, ◌<◌, length, get_or, ltb};
 ghost use Rattle.outline.specs.Tests.{all_below};
-ghost use Rattle.outline.specs.Book.{network};
+ghost use Rattle.outline.specs.Fares.{in_map};
+ghost use Rattle.outline.specs.Network.{network_of};
 ghost use Rattle.outline.specs.Refusals.{first_below};
-ghost use Rattle.outline.specs.Valid.{LaidOut};
 ghost use Rattle.outline.specs.Judging.{good_company, good_map, good_maps, good_rule, rule_check};
 ghost use Rattle.rules.specs.Rules.{GoodCompanies};
 
-use layout::bytes::wide;
-use outline::{Judged, Refusal};
+use outline::{Refusal, Rule};
+use source::{Company, Source};
 
-const LEAST_RUN: u8 = 2;
+const LEAST_RUN: u16 = 2;
 
-const MOST_RUN: u8 = 4;
+const MOST_RUN: u16 = 4;
 
 const MOST_AMOUNT: u16 = 999;
 
-const NO_COMPANY: u8 = 255;
+const NO_COMPANY: u16 = 255;
 
 // Whether company i of a rule of so many rides is right: of a ride, existing and other than the one before; else 255.
-fn good_company(companies: &[u8], rides: u8, known: u8, i: u8) -> bool
-    requires { i < length companies.now }
-    ensures { result ≡ good_company known rides companies.now i }
+#[tactic(auto, unfolding(outline::specs::Judging::good_company, outline::specs::Tests::both, outline::specs::Tests::either, outline::specs::Tests::choose))]
+fn good_company(companies: [u16; 4], rides: u16, known: u16, i: usize) -> bool
+    requires { i < 4 }
+    ensures { result ≡ good_company known rides companies i }
 {
-    let company = companies[wide(i)];
-    if rides <= i {
+    let company = companies[i];
+    if usize::from(rides) <= i {
         return company == NO_COMPANY;
     }
-    if known <= company {
-        return false;
-    }
-    if i == 0 {
-        return true;
-    }
-    companies[wide(i - 1)] != company
+    company < known && (i == 0 || companies[i - 1] != company)
 }
 
-fn good_companies(companies: &[u8], rides: u8, known: u8) -> bool
-    requires { 4 ≤ length companies.now }
-    ensures { result ≡ all_below (good_company known rides companies.now) 4 }
+fn good_companies(companies: [u16; 4], rides: u16, known: u16) -> bool
+    ensures { result ≡ all_below (good_company known rides companies) 4 }
 {
-    let mut i: u8 = 0;
-    while i < 4 {
+    for i in 0..4 {
         if !good_company(companies, rides, known, i) {
             return false;
         }
-        i += 1;
     }
     true
 }
 
-// Whether a map holds nothing beyond its first items.
-fn good_map(map: &[u8], items: u8) -> bool
+// Whether a map holds item i.
+#[tactic(auto, unfolding(outline::specs::Fares::in_map))]
+fn in_map(map: &[u16], i: usize) -> bool
+    requires { i < 8 * length map.now }
+    ensures { result ≡ in_map map.now i }
+{
+    let s = (i % 8) as u16;
+    (map[i / 8] >> s) % 2 == 1
+}
+
+// Whether each number of a map is a byte.
+fn are_bytes(map: &[u16]) -> bool
+    ensures { result ≡ all_below (λ i. ltb (get_or map.now i 0) 256) (length map.now) }
+{
+    map.iter().all(|x| *x < 256)
+}
+
+// Whether a map is of bytes and holds nothing beyond its first items.
+fn good_map(map: &[u16], items: u16) -> bool
     requires { length map.now ≤ 16 }
     ensures { result ≡ good_map map.now items }
 {
-    let end = 8 * (map.len() as u8);
-    let mut i = items;
-    while i < end {
-        if lookup::in_map(map, i) {
+    if !are_bytes(map) {
+        return false;
+    }
+    for i in usize::from(items)..8 * map.len() {
+        if in_map(map, i) {
             return false;
         }
-        i += 1;
     }
     true
 }
 
-// Whether rule k's three maps are right, where its rides and companies are.
-#[tactic(auto, using(crate::proofs::Maps::last_company))]
-fn good_maps(book: &[u8], k: u8) -> bool
-    requires { LaidOut book.now × (k < (network book.now).rules) × GoodCompanies (network book.now) ((network book.now).rule k) }
-    ensures { result ≡ good_maps (network book.now) ((network book.now).rule k) }
+// Whether the three maps of a rule are right, where its rides and companies are.
+#[tactic(auto, unfolding(outline::specs::Judging::good_maps, outline::specs::Tests::both, outline::specs::Network::network_of))]
+fn good_maps<S: Source>(source: S, rule: Rule) -> bool
+    requires { GoodCompanies (network_of (S.fares source)) rule }
+    ensures { result ≡ good_maps (network_of (S.fares source)) rule }
 {
-    let companies = lookup::rule_companies(book, k);
-    if !good_map(
-        lookup::rule_boarding(book, k),
-        lookup::stations(book, companies[0]),
-    ) {
-        return false;
-    }
-    let last = wide(lookup::rule_rides(book, k)) - 1;
-    if !good_map(
-        lookup::rule_alighting(book, k),
-        lookup::stations(book, companies[last]),
-    ) {
-        return false;
-    }
-    good_map(lookup::rule_permitted(book, k), lookup::links(book))
+    let first = source.company(rule.companies[0]);
+    let last = source.company(rule.companies[usize::from(rule.rides) - 1]);
+    good_map(&rule.boarding, first.stations())
+        && good_map(&rule.alighting, last.stations())
+        && good_map(&rule.permitted, source.links())
 }
 
-fn good_rule(book: &[u8], k: u8) -> bool
-    requires { LaidOut book.now × (k < (network book.now).rules) }
-    ensures { result ≡ good_rule (network book.now) ((network book.now).rule k) }
+#[tactic(auto, unfolding(outline::specs::Judging::good_rule, outline::specs::Tests::both, outline::specs::Tests::within, outline::specs::Network::network_of))]
+fn good_rule<S: Source>(source: S, rule: Rule) -> bool
+    ensures { result ≡ good_rule (network_of (S.fares source)) rule }
 {
-    let m = lookup::rule_rides(book, k);
-    if m < LEAST_RUN {
+    if !(LEAST_RUN..=MOST_RUN).contains(&rule.rides) {
         return false;
     }
-    if MOST_RUN < m {
+    if !good_companies(rule.companies, rule.rides, source.companies()) {
         return false;
     }
-    if !good_companies(lookup::rule_companies(book, k), m, lookup::companies(book)) {
-        return false;
-    }
-    let amount = lookup::rule_amount(book, k);
-    if amount < 1 {
-        return false;
-    }
-    if MOST_AMOUNT < amount {
-        return false;
-    }
-    good_maps(book, k)
+    (1..=MOST_AMOUNT).contains(&rule.amount) && good_maps(source, rule)
 }
 
-fn judge_rule(book: &[u8], k: u8) -> Judged
-    requires { LaidOut book.now × (k < (network book.now).rules) }
-    ensures { result ≡ rule_check (network book.now) k }
+// The first bad rule.
+#[tactic(auto, unfolding(outline::specs::Refusals::first_below), using(laws::proofs::Firsts::first_more, laws::proofs::Firsts::first_ends))]
+pub fn judge<S: Source>(source: S) -> Result<(), Refusal>
+    ensures { result ≡ first_below (rule_check (network_of (S.fares source))) (network_of (S.fares source)).rules }
 {
-    if good_rule(book, k) {
-        return Judged::Good;
+    for k in 0..source.rules() {
+        if !good_rule(source, source.rule(k)) {
+            return Err(Refusal::BadRule(usize::from(k)));
+        }
     }
-    Judged::Refused(Refusal::BadRule(wide(k)))
-}
-
-pub fn judge(book: &[u8]) -> Judged
-    requires { LaidOut book.now }
-    ensures { result ≡ first_below (rule_check (network book.now)) (network book.now).rules }
-{
-    let n = lookup::rules(book);
-    let mut k: u8 = 0;
-    while k < n {
-        let found = judge_rule(book, k);
-        let Judged::Good = found else {
-            return found;
-        };
-        k += 1;
-    }
-    Judged::Good
+    Ok(())
 }

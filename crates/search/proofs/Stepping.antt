@@ -13,7 +13,7 @@ use borrow.Author.Tests.{eq-eqb, le-ltb, ltb-true, ltb-false}
 use Rattle.outline.specs.declared.Station.{Station}
 use Rattle.outline.specs.declared.Link.{Link}
 use Rattle.outline.specs.declared.Leg.{Leg}
-use Rattle.outline.specs.declared.Joined.TheVariants.{ByLink}
+use Rattle.std.specs.Prelude.{Option, Some, None, IfSome, unwrap_or}
 use Rattle.outline.specs.Network.{Network, joins}
 use Rattle.outline.specs.Routes.{alighted_at, ride_at, is_link}
 use Rattle.outline.specs.declared.Question.{Question}
@@ -28,20 +28,20 @@ use Rattle.laws.proofs.Order.{GoodLinks}
 use Rattle.laws.proofs.Book.{found_link, by_link}
 use Rattle.laws.proofs.Routes.{reached_is}
 use Rattle.routes.specs.declared.Route.{Route}
-use Rattle.routes.specs.declared.Step.{Step}
 use Rattle.routes.specs.Held.{rides_of, Sized, Held, Reached, Extended}
 use Rattle.routes.proofs.Rides.{rides_length}
-use Rattle.cheapest.specs.Onward.{From, Direct, Over, Some, ride_to, near_end, far_end}
+use Rattle.cheapest.specs.Onward.{From, Direct, Over, SomeBelow, ride_to, near_end, far_end}
 use Rattle.cheapest.proofs.Onward.{good_none, good_more}
 use Rattle.cheapest.proofs.Walking.{longer, final_ride, direct_from, over_from, from_splits, near_joins_far, joins_from, from_joins}
+use Rattle.best.specs.declared.Fared.{Fared}
 use Rattle.best.specs.declared.Best.{Best}
 use Rattle.best.specs.Kept.{Sound, Improves}
 use Rattle.best.proofs.Improving.{improves_none, improves_same, improves_then}
-use Rattle.search.specs.Steps.{Arrived, Toward, Alighted, Ready, beyond, touches, Skip, Skips, leads_on, NextLink}
+use Rattle.search.specs.Steps.{Arrived, Toward, Alighted, Ready, beyond, touches, Skip, Skips, Onto, leads_on, Passed, FirstOn}
 
 -- ---- one ride
 
-pub arrived_reached : (N : Network) (p : List Leg) (x y : Station) (link : ℕ) → Arrived N p x link → Reached N p (ride_to x y) (ByLink link)
+pub arrived_reached : (N : Network) (p : List Leg) (x y : Station) (link : ℕ) → Arrived N p x link → Reached N p (ride_to x y) (Some link)
 unfolding is_link
 arrived_reached N p x y link a = record {
   test = sym ((reached_is N p (ride_to x y)).1 (λ some. let f = found_link N _ _ link (a some) in record { link = link; known = f.0; joined = f.1 }));
@@ -49,46 +49,32 @@ arrived_reached N p x y link a = record {
 }
 
 module _ (N : Network) (path : Route) (x y : Station) where
-  pub not_toward : (x.company ≡ y.company → ⊥) → Toward N path x y (record { good = false; route = path })
-  not_toward n = record {
-    company = λ t. absurd (true_not_false (sym t));
-    good = λ t. absurd (true_not_false (sym t));
-    held = λ t. absurd (true_not_false (sym t));
-    more = λ t. absurd (true_not_false (sym t));
-    bad = λ f e g. n e;
-  }
+  pub toward : (s : Option Route) → x.company ≡ y.company → Extended N path (ride_to x y) s → Toward N path x y s
+  toward (Some s) e h = record { company = e; good = h.good; held = h.held; more = h.more }
+  toward None e h = λ f g. true_not_false (sym g ∙ h)
 
-  pub toward : (s : Step) → x.company ≡ y.company → Extended N path (ride_to x y) s → Toward N path x y s
-  toward s e x = record {
-    company = λ t. e;
-    good = λ t. sym x.test ∙ t;
-    held = x.held;
-    more = x.more;
-    bad = λ f e g. true_not_false (sym g ∙ sym x.test ∙ f);
-  }
+  module _ (s : Route) (w : Onto N path x y s) where
+    pub step_good : AllGood N (rides_of path) → AllGood N (rides_of s)
+    step_good good = subst (AllGood N) (sym w.more) (good_more N (rides_of path) (ride_to x y) good w.good)
 
-  module _ (s : Step) (w : Toward N path x y s) (t : s.good ≡ true) where
-    pub step_good : AllGood N (rides_of path) → AllGood N (rides_of s.route)
-    step_good good = subst (AllGood N) (sym (w.more t)) (good_more N (rides_of path) (ride_to x y) good (w.good t))
-
-    pub step_count : Sized path → s.route.count ≡ path.count + 1
+    pub step_count : Sized path → s.count ≡ path.count + 1
     step_count sized =
         let here = rides_length path sized in
-        let there = rides_length s.route (w.held t).sized in
-        let more = ap length (w.more t) in
+        let there = rides_length s w.held.sized in
+        let more = ap length w.more in
         omega (arith, longer (rides_of path) (ride_to x y))
 
 -- ---- to the goal
 
-module _ (N : Network) (path : Route) (x goal : Station) (s : Step) (w : Toward N path x goal s) where
-  pub goal_reached : {b c : Best} → s.good ≡ true → Improves N b c (λ R. rides_of s.route ≡ R) → Improves N b c (Direct N goal (rides_of path) x)
-  goal_reached t i =
+module _ (N : Network) (path : Route) (x goal : Station) where
+  pub goal_reached : {b c : Best} (s : Route) → Onto N path x goal s → Improves N b c (λ R. rides_of s ≡ R) → Improves N b c (Direct N goal (rides_of path) x)
+  goal_reached s w i =
       improves_same N (Direct N goal (rides_of path) x) i
-      (λ R e. record { company = w.company t; good = w.good t; is = sym (w.more t) ∙ e })
-      (λ R d. w.more t ∙ d.is)
+      (λ R e. record { company = w.company; good = w.good; is = sym w.more ∙ e })
+      (λ R d. w.more ∙ d.is)
 
-  pub goal_missed : (b : Best) → s.good ≡ false → Sound N b → Improves N b b (Direct N goal (rides_of path) x)
-  goal_missed b f sound = improves_none N b (Direct N goal (rides_of path) x) sound (λ R d. w.bad f d.company d.good)
+  pub goal_missed : (b : Best) → Toward N path x goal None → Sound N b → Improves N b b (Direct N goal (rides_of path) x)
+  goal_missed b n sound = improves_none N b (Direct N goal (rides_of path) x) sound (λ R d. n d.company d.good)
 
 -- ---- to a link and over it
 
@@ -96,29 +82,28 @@ module _ (N : Network) (goal : Station) (path : Route) (x : Station) (left k : �
   abbrev Near : Station
   Near = near_end (N.link k) x.company
 
-  module _ (s : Step) (w : Toward N path x Near s) where
+  module _ (s : Route) (w : Onto N path x Near s) where
     -- the path with the ride to the link has alighted at its near end
-    pub link_reached : s.good ≡ true → k < N.links → Alighted N (rides_of s.route) k
-    link_reached t known = subst (λ (r : List Leg). Alighted N r k) (sym (w.more t)) (record {
+    pub link_reached : k < N.links → Alighted N (rides_of s) k
+    link_reached known = subst (λ (r : List Leg). Alighted N r k) (sym w.more) (record {
       some = omega (arith, longer (rides_of path) (ride_to x Near));
       known = known;
-      there = subst (λ (r : Leg). alighted_at r ≡ near_end (N.link k) r.company) (sym (final_ride (rides_of path) (ride_to x Near))) (λ i. record { company = w.company t i; number = Near.number });
+      there = subst (λ (r : Leg). alighted_at r ≡ near_end (N.link k) r.company) (sym (final_ride (rides_of path) (ride_to x Near))) (λ i. record { company = w.company i; number = Near.number });
     })
 
-    pub link_taken : {b c : Best} → s.good ≡ true → Improves N b c (From N goal left (rides_of s.route) (beyond N (rides_of s.route) k))
-        → Improves N b c (Over N goal left (rides_of path) x k)
-    link_taken t i =
+    pub link_taken : {b c : Best} → Improves N b c (From N goal left (rides_of s) (beyond N (rides_of s) k)) → Improves N b c (Over N goal left (rides_of path) x k)
+    link_taken i =
         let far : beyond N (rides_of path ++ (ride_to x Near ∷ [])) k ≡ far_end (N.link k) x.company = ap (λ (r : Leg). far_end (N.link k) r.company) (final_ride (rides_of path) (ride_to x Near)) in
         improves_same N (Over N goal left (rides_of path) x k) i
         (λ R f. record {
-          company = w.company t;
-          good = w.good t;
-          onward = subst (λ (y : Station). From N goal left (rides_of path ++ (ride_to x Near ∷ [])) y R) far (subst (λ (r : List Leg). From N goal left r (beyond N r k) R) (w.more t) f);
+          company = w.company;
+          good = w.good;
+          onward = subst (λ (y : Station). From N goal left (rides_of path ++ (ride_to x Near ∷ [])) y R) far (subst (λ (r : List Leg). From N goal left r (beyond N r k) R) w.more f);
         })
-        (λ R o. subst (λ (r : List Leg). From N goal left r (beyond N r k) R) (sym (w.more t)) (subst (λ (y : Station). From N goal left (rides_of path ++ (ride_to x Near ∷ [])) y R) (sym far) o.onward))
+        (λ R o. subst (λ (r : List Leg). From N goal left r (beyond N r k) R) (sym w.more) (subst (λ (y : Station). From N goal left (rides_of path ++ (ride_to x Near ∷ [])) y R) (sym far) o.onward))
 
-    pub link_missed : (b : Best) → s.good ≡ false → Sound N b → Improves N b b (Over N goal left (rides_of path) x k)
-    link_missed b f sound = improves_none N b (Over N goal left (rides_of path) x k) sound (λ R o. w.bad f o.company o.good)
+  pub link_missed : (b : Best) → Toward N path x Near None → Sound N b → Improves N b b (Over N goal left (rides_of path) x k)
+  link_missed b n sound = improves_none N b (Over N goal left (rides_of path) x k) sound (λ R o. n o.company o.good)
 
 -- over the link, the far end is where the path has come by it
 pub link_walked : (N : Network) (p : List Leg) (k : ℕ) → GoodLinks N → Alighted N p k → Arrived N p (beyond N p k) k
@@ -196,16 +181,22 @@ module _ (N : Network) (goal : Station) (p : List Leg) (x : Station) (left : ℕ
           either_second _ _ (eq-eqb _ _ (⊎_elim (λ d. d.company) (λ s. absurd (let h = s.holds.onward in omega (arith, h.more, h.few))) (from_splits N goal _ _ R (left - 1) links o.onward)))
 
   -- no route goes over the links that are passed
-  pub links_passed : {b c : Best} (from r : ℕ) → NextLink N x.company goal left from r → Improves N b c (λ R. Some from (λ k. Over N goal (left - 1) p x k R))
-      → Improves N b c (λ R. Some r (λ k. Over N goal (left - 1) p x k R))
-  links_passed from r next i =
-      improves_same N (λ R. Some r (λ k. Over N goal (left - 1) p x k R)) i
-      (λ R s. record { at = s.at; below = omega (arith, s.below, next.later); holds = s.holds })
+  links_passed : {b c : Best} (from r : ℕ) → from ≤ r → Passed N x.company goal left from r → Improves N b c (λ R. SomeBelow from (λ k. Over N goal (left - 1) p x k R))
+      → Improves N b c (λ R. SomeBelow r (λ k. Over N goal (left - 1) p x k R))
+  links_passed from r later passed i =
+      improves_same N (λ R. SomeBelow r (λ k. Over N goal (left - 1) p x k R)) i
+      (λ R s. record { at = s.at; below = omega (arith, s.below, later); holds = s.holds })
       (λ R s. record { at = s.at; below = before R s (ltb s.at from) refl; holds = s.holds })
     where
-      before : (R : List Leg) (s : Some r (λ k. Over N goal (left - 1) p x k R)) (t : Bool) → ltb s.at from ≡ t → s.at < from
+      before : (R : List Leg) (s : SomeBelow r (λ k. Over N goal (left - 1) p x k R)) (t : Bool) → ltb s.at from ≡ t → s.at < from
       before R s true e = ltb-true _ _ e
-      before R s false e = absurd (true_not_false (sym (over_leads s.at R s.holds) ∙ next.passed s.at (ltb-false _ _ e) s.below))
+      before R s false e = absurd (true_not_false (sym (over_leads s.at R s.holds) ∙ passed s.at (ltb-false _ _ e) s.below))
+
+  -- the first link that leads on is the next to try, or all are tried
+  pub next_passed : {b c : Best} (from : ℕ) → from ≤ N.links → (r : Option ℕ) → FirstOn N x.company goal left from r → Improves N b c (λ R. SomeBelow from (λ k. Over N goal (left - 1) p x k R))
+      → IfSome r (λ k. k < N.links) × Improves N b c (λ R. SomeBelow (unwrap_or r N.links) (λ k. Over N goal (left - 1) p x k R))
+  next_passed from few (Some r) next i = (next.known, links_passed from r next.later next.passed i)
+  next_passed from few None passed i = (tt, links_passed from N.links few passed i)
 
 -- ---- all of a step by rides
 
@@ -217,7 +208,7 @@ module _ (N : Network) (goal : Station) (p : List Leg) (x : Station) where
       (λ R f. ⊎_elim (λ d. d) (λ o. absurd (let h = o.holds.onward in omega (arith, h.more, h.few))) (from_splits N goal p x R left links f))
 
   pub whole_step : {b c d : Best} (left : ℕ) → GoodLinks N → AllGood N p → 1 ≤ left → Improves N b c (Direct N goal p x)
-      → Improves N c d (λ R. Some N.links (λ k. Over N goal (left - 1) p x k R)) → Improves N b d (From N goal left p x)
+      → Improves N c d (λ R. SomeBelow N.links (λ k. Over N goal (left - 1) p x k R)) → Improves N b d (From N goal left p x)
   whole_step left links good some i j =
       improves_then N (From N goal left p x) i j
       (λ R d. direct_from N goal p x R left some good d)
@@ -227,15 +218,14 @@ module _ (N : Network) (goal : Station) (p : List Leg) (x : Station) where
 -- ---- all of a search
 
 -- what a search may begin with: no ride, and nothing held
-pub begin : (b : List ℕ) (path : Route) (left : ℕ) (best : Best) → ValidBook b → Held (network b) path → rides_of path ≡ [] → Within 1 left most_rides → best.found ≡ false
+pub begin : (b : List ℕ) (path : Route) (left : ℕ) (best : Best) → Held (network b) path → rides_of path ≡ [] → Within 1 left most_rides → best.found ≡ None
     → Ready b path left best
-begin b path left best valid held none limit new = record {
-  valid = valid;
+begin b path left best held none limit new = record {
   held = held;
   good = subst (AllGood (network b)) (sym none) (good_none (network b));
   some = limit.from;
   room = omega (arith, rides_length path held.sized, ap length none, limit.to);
-  sound = λ t. absurd (true_not_false (sym t ∙ new));
+  sound = rw new tt;
 }
 
 module _ (N : Network) (q : Question) (b c : Best) (p : List Leg) (left : ℕ) (none : p ≡ []) (all : left ≡ q.limit)
@@ -243,12 +233,11 @@ module _ (N : Network) (q : Question) (b c : Best) (p : List Leg) (left : ℕ) (
   searched : Improves N b c (From N q.to q.limit [] q.from)
   searched = subst (λ (r : List Leg). Improves N b c (From N q.to q.limit r q.from)) none (subst (λ (n : ℕ). Improves N b c (From N q.to n p q.from)) all i)
 
-  pub cheapest_found : b.found ≡ false → c.found ≡ true → q.limit ≤ most_rides → Cheapest N q (rides_of c.route)
-  cheapest_found new found most = record {
-    joins = from_joins N q (rides_of c.route) most
-        (⊎_elim (λ h. absurd (true_not_false (sym h.found ∙ new))) (λ f. f) (searched.origin (rides_of c.route) (record { found = found; is = refl })));
-    first = λ t j. (searched.beats t (joins_from N q t j)).earlier;
+  pub cheapest_found : (p : Fared) → b.found ≡ None → c.found ≡ Some p → q.limit ≤ most_rides → Cheapest N q (rides_of p.route)
+  cheapest_found p new found most = record {
+    joins = from_joins N q (rides_of p.route) most (⊎_elim (λ h. absurd (rw new at h)) (λ f. f) (searched.origin (rides_of p.route) (rw found refl)));
+    first = λ t j. rw found at (searched.beats t (joins_from N q t j));
   }
 
-  pub none_found : c.found ≡ false → (t : List Leg) → Joins N q t → ⊥
-  none_found missed t j = true_not_false (sym (searched.beats t (joins_from N q t j)).found ∙ missed)
+  pub none_found : c.found ≡ None → (t : List Leg) → Joins N q t → ⊥
+  none_found missed t j = rw missed at (searched.beats t (joins_from N q t j))

@@ -8,7 +8,7 @@ use lib.ListN.{length, take}
 use lib.Seq.{length-take-le}
 use Rattle.outline.specs.declared.Run.{Run}
 use Rattle.outline.specs.declared.Payer.{Payer}
-use Rattle.outline.specs.declared.Payer.TheVariants.{Nobody, Pays}
+use Rattle.std.specs.Prelude.{Option, Some, None}
 use Rattle.outline.specs.Tests.{choose}
 use Rattle.outline.specs.Selections.{Earn, yen, total}
 use Rattle.outline.specs.Choosing.{best_rule, rather, with_run, or_run, best_from}
@@ -47,41 +47,41 @@ held_one : (P : Selection → Type 0) (s t : Selection) → P s → P t → P (r
 unfolding rather_than
 held_one P s t p q = chosen_one P s t _ _ _ p q
 
-module _ (earn : Earn) (rules at m : ℕ) (rest held : Selection) (rs : Sound earn 1 rest) (hs : Sound earn 2 held) (b : Payer) (best : b ≡ best_rule (earn at m) rules) where
-  pub none_pays : b ≡ Nobody → Chosen earn (held.count + rest.count + 1) (or_run earn rules at m (runs_in rest) (runs_in held)) held
+module _ (earn : Earn) (rules at m : ℕ) (rest held : Selection) (rs : Sound earn 1 rest) (hs : Sound earn 2 held) (b : Option Payer) (best : b ≡ best_rule (earn at m) rules) where
+  pub none_pays : b ≡ None → Chosen earn (held.count + rest.count + 1) (or_run earn rules at m (runs_in rest) (runs_in held)) held
   unfolding or_run with_run
   none_pays e = record {
     sound = record { earned = hs.earned; small = hs.small; few = omega arith; two = hs.two };
     is = ap (with_run earn at m (runs_in rest) (runs_in held)) (sym e ∙ best);
   }
 
-  module _ (k y : ℕ) (e : b ≡ Pays k y) where
+  module _ (p : Payer) (e : b ≡ Some p) where
     front : Selection
-    front = record { one = record { first = at; rides = m; rule = k }; two = rest.one; count = rest.count + 1; total = y + rest.total }
+    front = record { one = record { first = at; rides = m; rule = p.rule }; two = rest.one; count = rest.count + 1; total = p.yen + rest.total }
 
-    right : Most (earn at m) rules k y
+    right : Most (earn at m) rules p.rule p.yen
     right = subst (Right (earn at m) rules) (sym best ∙ e) (rule_right (earn at m) rules)
 
-    front_runs : runs_in front ≡ record { first = at; rides = m; rule = k } ∷ runs_in rest
+    front_runs : runs_in front ≡ record { first = at; rides = m; rule = p.rule } ∷ runs_in rest
     unfolding front
     front_runs = runs_after rest.count _ rest.one rest.two rs.few
 
-    front_sound : y ≤ 65535 → Sound earn (rest.count + 1) front
+    front_sound : p.yen ≤ 65535 → Sound earn (rest.count + 1) front
     unfolding front total
     front_sound small = record {
-      earned = (let a = yen_is (earn at m k) y right.earned in let t = rs.earned in let z : y + rest.total ≡ yen (earn at m k) + total earn (runs_in rest) = omega arith in z) ∙ ap (total earn) (sym front_runs);
+      earned = (let a = yen_is (earn at m p.rule) p.yen right.earned in let t = rs.earned in let z : p.yen + rest.total ≡ yen (earn at m p.rule) + total earn (runs_in rest) = omega arith in z) ∙ ap (total earn) (sym front_runs);
       small = omega (arith, rs.small);
       few = omega arith;
       two = omega (arith, rs.few);
     }
 
-    pub one_pays : (x : ℕ) (f r : Selection) → x ≡ y → x < 65536
-        → f ≡ record { one = record { first = at; rides = m; rule = k }; two = rest.one; count = rest.count + 1; total = x + rest.total } → r ≡ rather_than f held
+    pub one_pays : (x : ℕ) (f r : Selection) → x ≡ p.yen → x < 65536
+        → f ≡ record { one = record { first = at; rides = m; rule = p.rule }; two = rest.one; count = rest.count + 1; total = x + rest.total } → r ≡ rather_than f held
         → Chosen earn (held.count + rest.count + 1) (or_run earn rules at m (runs_in rest) (runs_in held)) r
     unfolding front or_run with_run
     one_pays x f r same small made g =
         let sound = front_sound (omega arith) in
-        let is_front : f ≡ front = made ∙ ap (λ (z : ℕ). record { one = record { first = at; rides = m; rule = k }; two = rest.one; count = rest.count + 1; total = z + rest.total }) same in
+        let is_front : f ≡ front = made ∙ ap (λ (z : ℕ). record { one = record { first = at; rides = m; rule = p.rule }; two = rest.one; count = rest.count + 1; total = z + rest.total }) same in
         subst (Chosen earn (held.count + rest.count + 1) (or_run earn rules at m (runs_in rest) (runs_in held))) (sym (g ∙ ap (λ (z : Selection). rather_than z held) is_front)) (record {
           sound = held_one (Sound earn (held.count + rest.count + 1)) front held
               (record { earned = sound.earned; small = sound.small; few = omega (arith, sound.few); two = sound.two })

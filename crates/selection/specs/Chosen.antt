@@ -3,17 +3,11 @@ use Rattle.std.specs.Prelude.{ℕ, ◌*◌, ◌≤◌, ◌≡◌, List, [], ◌�
 use Rattle.outline.specs.declared.Run.{Run}
 use Rattle.outline.specs.Tests.{choose}
 use Rattle.outline.specs.Book.{network}
-use Rattle.outline.specs.Valid.{LaidOut}
 use Rattle.outline.specs.Selections.{Earn, total}
 use Rattle.outline.specs.Price.{earn_on}
 use Rattle.routes.specs.declared.Route.{Route}
-use Rattle.routes.specs.Held.{rides_of, Held}
+use Rattle.routes.specs.Held.{rides_of}
 use Rattle.selection.specs.declared.Selection.{Selection}
-
--- a route that is held, of a book that is laid out
-pub record OnBook (b : List ℕ) (r : Route) : Type 0 where
-  pub laid_out : LaidOut b
-  pub held : Held (network b) r
 
 -- what the rules of a book earn on the runs of a route
 abbrev pub earn_in : List ℕ → Route → Earn

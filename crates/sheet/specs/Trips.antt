@@ -1,5 +1,5 @@
 -- When a sheet, and when a book, comes back from its round trip: where it is valid and both lent lists have room.
-use Rattle.std.specs.Prelude.{ℕ, Bool, true, false, ◌≡◌, List, length, take, leb}
+use Rattle.std.specs.Prelude.{ℕ, Bool, false, List, length, leb}
 use Rattle.outline.specs.Tests.{both}
 use Rattle.outline.specs.Book.{fares_of}
 use Rattle.outline.specs.Judging.{book_check, where_good}
@@ -12,8 +12,3 @@ sheet_returns sheet book again = both (where_good (sheet_check sheet) (leb (leng
 
 unfoldable pub book_returns : List ℕ → List ℕ → List ℕ → Bool
 book_returns book sheet again = both (where_good (book_check book) (leb (length (sheet_of (fares_of book))) (length sheet)) false) (leb (length book) (length again))
-
--- whether the first n of ys are xs
-pub record Same (xs ys : List ℕ) (n : ℕ) (r : Bool) : Type 0 where
-  pub holds : take n ys ≡ xs → r ≡ true
-  pub only : r ≡ true → take n ys ≡ xs

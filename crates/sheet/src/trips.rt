@@ -7,45 +7,7 @@ ghost use Rattle.outline.specs.Sheet.{fares_in, sheet_of};
 ghost use Rattle.outline.specs.SheetValid.{ValidSheet};
 ghost use Rattle.outline.specs.Writing.{book_of};
 ghost use Rattle.outline.specs.Lending.{filled, read_leaves, write_leaves};
-ghost use Rattle.sheet.specs.Trips.{sheet_returns, book_returns, Same};
-
-use outline::Written;
-
-// Whether the first n of the second list are the first list.
-fn same_numbers(xs: &[u16], ys: &[u16], n: usize) -> bool
-    requires { n ≤ length ys.now }
-    ensures { Same xs.now ys.now n result }
-{
-    if xs.len() != n {
-        return false;
-    }
-    let mut i: usize = 0;
-    while i < n {
-        if xs[i] != ys[i] {
-            return false;
-        }
-        i += 1;
-    }
-    true
-}
-
-// Whether the first n of the second list are the first list.
-fn same_bytes(xs: &[u8], ys: &[u8], n: usize) -> bool
-    requires { n ≤ length ys.now }
-    ensures { Same xs.now ys.now n result }
-{
-    if xs.len() != n {
-        return false;
-    }
-    let mut i: usize = 0;
-    while i < n {
-        if xs[i] != ys[i] {
-            return false;
-        }
-        i += 1;
-    }
-    true
-}
+ghost use Rattle.sheet.specs.Trips.{sheet_returns, book_returns};
 
 // Whether the book of a valid sheet reads back as the sheet, where there is room.
 fn sheet_read(sheet: &[u16], book: &[u8], again: &mut [u16]) -> bool
@@ -55,8 +17,8 @@ fn sheet_read(sheet: &[u16], book: &[u8], again: &mut [u16]) -> bool
 {
     let got = crate::read(book, again);
     match got {
-        Written::NotWritten(_) => false,
-        Written::Wrote(n) => same_numbers(sheet, again, n),
+        Err(_) => false,
+        Ok(n) => again[..n] == sheet[..],
     }
 }
 
@@ -68,8 +30,8 @@ pub fn sheet_returns(sheet: &[u16], book: &mut [u8], again: &mut [u16]) -> bool
 {
     let wrote = crate::write(sheet, book);
     match wrote {
-        Written::NotWritten(_) => false,
-        Written::Wrote(n) => sheet_read(sheet, &book[..n], again),
+        Err(_) => false,
+        Ok(n) => sheet_read(sheet, &book[..n], again),
     }
 }
 
@@ -81,8 +43,8 @@ fn book_written(book: &[u8], sheet: &[u16], again: &mut [u8]) -> bool
 {
     let wrote = crate::write(sheet, again);
     match wrote {
-        Written::NotWritten(_) => false,
-        Written::Wrote(n) => same_bytes(book, again, n),
+        Err(_) => false,
+        Ok(n) => again[..n] == book[..],
     }
 }
 
@@ -94,7 +56,7 @@ pub fn book_returns(book: &[u8], sheet: &mut [u16], again: &mut [u8]) -> bool
 {
     let got = crate::read(book, sheet);
     match got {
-        Written::NotWritten(_) => false,
-        Written::Wrote(n) => book_written(book, &sheet[..n], again),
+        Err(_) => false,
+        Ok(n) => book_written(book, &sheet[..n], again),
     }
 }

@@ -5,82 +5,60 @@ ghost use Rattle.outline.specs.Sheet.{companies_in, company_start};
 ghost use Rattle.outline.specs.SheetValid.{GoodCounts, CompanyNumbers};
 ghost use Rattle.outline.specs.SheetJudging.{counts_check, numbers_check, remainder_check};
 
-use outline::{Judged, Refusal};
-use sheet_layout::wide;
+use outline::Refusal;
+use source::limits;
 
-const MOST_COMPANIES: u16 = 16;
-
-const LEAST_STATIONS: u16 = 2;
-
-const MOST_STATIONS: u16 = 40;
-
-const MOST_LINKS: u16 = 128;
-
-const MOST_RULES: u16 = 32;
-
-pub fn judge_counts(sheet: &[u16]) -> Judged
+#[tactic(auto, unfolding(outline::specs::SheetJudging::counts_check, outline::specs::Refusals::demand, outline::specs::Tests::both, outline::specs::Tests::within))]
+pub fn judge_counts(sheet: &[u16]) -> Result<(), Refusal>
     ensures { result ≡ counts_check sheet.now }
 {
     if sheet.len() < sheet_layout::COUNTS {
-        return Judged::Refused(Refusal::WrongLength);
+        return Err(Refusal::WrongLength);
     }
     let companies = sheet_layout::companies(sheet);
-    if companies < 1 {
-        return Judged::Refused(Refusal::OutsideLimits);
+    let links = sheet_layout::links(sheet);
+    let rules = sheet_layout::rules(sheet);
+    if !limits::good_counts(companies, links, rules) {
+        return Err(Refusal::OutsideLimits);
     }
-    if MOST_COMPANIES < companies {
-        return Judged::Refused(Refusal::OutsideLimits);
-    }
-    if MOST_LINKS < sheet_layout::links(sheet) {
-        return Judged::Refused(Refusal::OutsideLimits);
-    }
-    if MOST_RULES < sheet_layout::rules(sheet) {
-        return Judged::Refused(Refusal::OutsideLimits);
-    }
-    Judged::Good
+    Ok(())
 }
 
 // What is wrong with the numbers of company c, which begin at `at`.
-fn judge_company(sheet: &[u16], c: u16, at: usize) -> Judged
+#[tactic(auto, unfolding(outline::specs::SheetJudging::numbers_check, outline::specs::Refusals::demand))]
+fn judge_company(sheet: &[u16], c: u16, at: usize) -> Result<(), Refusal>
     requires { at ≡ company_start sheet.now c }
     ensures { result ≡ numbers_check sheet.now c }
 {
     if sheet.len() <= at {
-        return Judged::Refused(Refusal::WrongLength);
+        return Err(Refusal::WrongLength);
     }
     let n = sheet[at];
-    if n < LEAST_STATIONS {
-        return Judged::Refused(Refusal::BadStations(wide(c)));
-    }
-    if MOST_STATIONS < n {
-        return Judged::Refused(Refusal::BadStations(wide(c)));
+    if !limits::good_stations(n) {
+        return Err(Refusal::BadStations(usize::from(c)));
     }
     if sheet.len() - at < sheet_layout::table_numbers(n) {
-        return Judged::Refused(Refusal::WrongLength);
+        return Err(Refusal::WrongLength);
     }
-    Judged::Good
+    Ok(())
 }
 
-pub fn judge_companies(sheet: &[u16]) -> Judged
+#[tactic(auto, unfolding(outline::specs::Refusals::first_below), using(laws::proofs::Firsts::first_more, laws::proofs::Firsts::first_ends))]
+pub fn judge_companies(sheet: &[u16]) -> Result<(), Refusal>
     requires { GoodCounts sheet.now }
     ensures { result ≡ first_below (numbers_check sheet.now) (companies_in sheet.now) }
 {
-    let n = sheet_layout::companies(sheet);
-    let mut at: usize = sheet_layout::COUNTS;
-    let mut c: u16 = 0;
-    while c < n {
-        let found = judge_company(sheet, c, at);
-        let Judged::Good = found else {
-            return found;
-        };
-        at = at + sheet_layout::table_numbers(sheet[at]);
-        c += 1;
+    let mut at = sheet_layout::COUNTS;
+    for c in 0..sheet_layout::companies(sheet) {
+        judge_company(sheet, c, at)?;
+        at += sheet_layout::table_numbers(sheet[at]);
     }
-    Judged::Good
+    Ok(())
 }
 
 // Whether the sheet ends where its rules do.
-pub fn judge_end(sheet: &[u16]) -> Judged
+#[tactic(auto, unfolding(outline::specs::SheetJudging::remainder_check, outline::specs::Refusals::demand))]
+pub fn judge_end(sheet: &[u16]) -> Result<(), Refusal>
     requires good_counts { GoodCounts sheet.now }
     requires by_index { (c : ℕ) → c < companies_in sheet.now → CompanyNumbers sheet.now c }
     ensures { result ≡ remainder_check sheet.now }
@@ -89,7 +67,7 @@ pub fn judge_end(sheet: &[u16]) -> Judged
     let discounts = sheet_layout::links_numbers(sheet_layout::links(sheet));
     let rest = sheet_layout::rules_numbers(sheet_layout::rules(sheet));
     if sheet.len() - changes != discounts + rest {
-        return Judged::Refused(Refusal::WrongLength);
+        return Err(Refusal::WrongLength);
     }
-    Judged::Good
+    Ok(())
 }

@@ -1,66 +1,60 @@
-// The line of what a book is judged, and of a reader's or a writer's answer.
-ghost use Rattle.std.specs.Prelude.{◌≡◌, ◌≤◌, IfOk, OnErr, length};
-ghost use Rattle.text.specs.Lines.{next_line};
+// The lines of what a book is judged, and of a reader's or a writer's answer.
+ghost use Rattle.std.specs.Prelude.{◌≡◌, Some};
+ghost use Rattle.stored.specs.Answers.{judged_text, written_text, back_text, done_text};
 
-use outline::{Judged, Written};
-use std::io;
-use std::io::Write;
+use outline::Refusal;
+use std::fmt;
+use text::answers::Refused;
 
-// Puts the line of a judged book after the first n bytes of the buffer, and answers where it ends.
-pub fn put_judged<W: Write>(
-    to: &mut W,
-    out: &mut [u8],
-    n: usize,
-    judged: Judged,
-) -> io::Result<usize>
-    ensures ok { IfOk result (λ end. next_line n (length out.old) ≤ end) }
-    ensures err { OnErr result (out.new ≡ out.old) }
-    ensures full { OnErr result (next_line n (length out.old) ≡ 0) }
-{
-    let at = text::lines::room(to, out, n)?;
-    match judged {
-        Judged::Good => Ok(text::lines::put_text(out, at, b"ok\n")),
-        Judged::Refused(x) => Ok(text::lines::put_refusal(out, at, x)),
-    }
-}
+// What a book is judged.
+#[derive(Drop)]
+pub struct Verdict(pub Result<(), Refusal>);
 
-fn put_written(out: &mut [u8], at: usize, written: Written) -> usize
-    ensures { at ≤ result }
-{
-    match written {
-        Written::Wrote(n) => {
-            let number = text::lines::put_text(out, at, b"wrote ");
-            text::lines::put_number(out, number, n as u64)
+impl fmt::Display for Verdict {
+    ghost output = { λ x. Some (judged_text x.0) };
+
+    fn fmt<W: fmt::Write>(&self, f: &mut fmt::Formatter<W>) -> fmt::Result {
+        match self.0 {
+            Ok(()) => writeln!(f, "ok"),
+            Err(x) => writeln!(f, "{}", Refused(x)),
         }
-        Written::NotWritten(x) => text::lines::put_refused(out, at, x),
     }
 }
 
-fn put_back(out: &mut [u8], at: usize, back: bool) -> usize
-    ensures { at ≤ result }
-{
-    if back {
-        return text::lines::put_text(out, at, b" back\n");
+// What a reader or a writer answers.
+#[derive(Drop)]
+struct Outcome(Result<usize, Refusal>);
+
+impl fmt::Display for Outcome {
+    ghost output = { λ x. Some (written_text x.0) };
+
+    fn fmt<W: fmt::Write>(&self, f: &mut fmt::Formatter<W>) -> fmt::Result {
+        match self.0 {
+            Ok(n) => write!(f, "wrote {n}"),
+            Err(x) => write!(f, "{}", Refused(x)),
+        }
     }
-    text::lines::put_text(out, at, b" lost\n")
 }
 
-// Puts the line of an answer, of a sum and of a round trip after the first n bytes of the buffer, and answers where it ends.
-pub fn put<W: Write>(
-    to: &mut W,
-    out: &mut [u8],
-    n: usize,
-    written: Written,
-    sum: u64,
-    back: bool,
-) -> io::Result<usize>
-    ensures ok { IfOk result (λ end. next_line n (length out.old) ≤ end) }
-    ensures err { OnErr result (out.new ≡ out.old) }
-    ensures full { OnErr result (next_line n (length out.old) ≡ 0) }
+// What a reader or a writer answers, the sum of the list that was lent to it, and whether what it was given comes back from a round trip.
+#[derive(Drop)]
+pub struct Done {
+    pub written: Result<usize, Refusal>,
+    pub sum: u64,
+    pub back: bool,
+}
+
+fn word(back: bool) -> &'static str
+    ensures { result.now ≡ back_text back }
 {
-    let at = text::lines::room(to, out, n)?;
-    let answer = put_written(out, at, written);
-    let space = text::lines::put_text(out, answer, b" ");
-    let end = text::lines::put_number(out, space, sum);
-    Ok(put_back(out, end, back))
+    if back { "back" } else { "lost" }
+}
+
+impl fmt::Display for Done {
+    ghost output = { λ x. Some (done_text x.written x.sum x.back) };
+
+    fn fmt<W: fmt::Write>(&self, f: &mut fmt::Formatter<W>) -> fmt::Result {
+        let outcome = Outcome(self.written);
+        writeln!(f, "{outcome} {} {}", self.sum, word(self.back))
+    }
 }

@@ -1,43 +1,57 @@
 // A line of the input, taken in byte by byte.
+ghost use Rattle.std.specs.Prelude.{◌≡◌};
 
-ghost use Rattle.std.specs.Prelude.{◌≡◌, length};
+use text::digits;
 
 // More than the longest list that is lent.
 const MOST: usize = 65536;
 
+// What is asked of a book or of a sheet.
 #[derive(Clone, Copy)]
-pub struct Line {
-    // The letter that it begins with.
-    pub kind: u8,
-    pub lent: usize,
-    // How many digits there are, and how many before a space.
-    pub digits: usize,
-    pub first: usize,
-    // A decimal number is being read, and what it is so far.
-    counting: bool,
-    number: usize,
-    back: usize,
+pub enum Kind {
+    Judge,
+    List,
+    Price,
+    Cheapest,
+    Read,
+    Write,
 }
 
-// Puts after `count` digits so many bytes, like those that begin `back` bytes before, and answers how many digits there are then.
-fn repeat(data: &mut [u8], count: usize, back: usize, long: usize) -> usize {
-    let mut end = count / 2;
-    let mut left = long;
-    while 0 < left {
-        if end < back {
-            return count;
+impl Kind {
+    // What a letter asks; other bytes ask nothing.
+    fn of_letter(letter: u8) -> Option<Kind> {
+        match letter {
+            b'j' => Some(Kind::Judge),
+            b'l' => Some(Kind::List),
+            b'p' => Some(Kind::Price),
+            b'q' => Some(Kind::Cheapest),
+            b'r' => Some(Kind::Read),
+            b'w' => Some(Kind::Write),
+            _ => None,
         }
-        if data.len() <= end {
-            return count;
-        }
-        data[end] = data[end - back];
-        end += 1;
-        left -= 1;
     }
-    if MOST < end {
-        return count;
+}
+
+#[derive(Drop)]
+pub struct Line {
+    // A line without a letter is listed.
+    pub kind: Kind,
+    pub lent: usize,
+    // How many digits there are, and how many before a space.
+    digits: usize,
+    first: usize,
+    // A decimal number that is being read, as far as it goes.
+    number: Option<usize>,
+    back: usize,
+    data: [u8; MOST],
+}
+
+// A number with a decimal digit more; what is no digit, and what would be too much, is passed over.
+fn with_digit(number: usize, x: u8) -> usize {
+    match digits::value(x) {
+        Some(digit) if digit < 10 && number < MOST => 10 * number + usize::from(digit),
+        _ => number,
     }
-    2 * end
 }
 
 impl Line {
@@ -45,85 +59,100 @@ impl Line {
         ensures { result.digits ≡ 0 }
     {
         Line {
-            kind: 0,
+            kind: Kind::List,
             lent: 0,
             digits: 0,
             first: 0,
-            counting: false,
-            number: 0,
+            number: None,
             back: 0,
+            data: [0; MOST],
         }
     }
 
-    // A decimal digit more; what is no digit, and what would be too much, is passed over.
-    fn count(mut self, x: u8) -> Line {
-        let d = text::digits::value(x);
-        let number = self.number;
-        if 10 <= d {
-            return self;
-        }
-        if MOST <= number {
-            return self;
-        }
-        self.number = 10 * number + d as usize;
-        self
-    }
-
-    // A number is over: what it is for stands after it.
-    fn counted(mut self, data: &mut [u8], x: u8) -> Line {
-        let number = self.number;
-        let digits = self.digits;
-        let back = self.back;
-        self.number = 0;
-        if x == b':' {
-            self.lent = number;
-        }
-        if x == b',' {
-            self.back = number;
-            return self;
-        }
-        if x == b'>' {
-            self.digits = repeat(data, digits, back, number);
-        }
-        self.counting = false;
-        self
-    }
-
-    // The line with its next byte.
-    pub fn next(mut self, data: &mut [u8], x: u8) -> Line
-        ensures { length «data».new ≡ length «data».old }
+    // The next line begins.
+    pub fn begin(&mut self)
+        ensures { self.new.digits ≡ 0 }
     {
+        self.kind = Kind::List;
+        self.lent = 0;
+        self.digits = 0;
+        self.first = 0;
+        self.number = None;
+        self.back = 0;
+    }
+
+    // The bytes that its digits make.
+    pub fn all(&self) -> &[u8] {
+        digits::made(&self.data, self.digits)
+    }
+
+    // Those before the space.
+    pub fn book(&self) -> &[u8] {
+        digits::made(self.all(), self.first)
+    }
+
+    // Those after it.
+    pub fn rest(&self) -> &[u8] {
+        digits::after(self.all(), self.first)
+    }
+
+    // Takes the line's next byte in.
+    pub fn next(&mut self, x: u8) {
         match x {
-            b'j' | b'l' | b'p' | b'q' => {
-                self.kind = x;
-                self
+            b' ' => self.first = self.digits,
+            b'<' => self.begin_number(),
+            b':' => self.lent = self.end_number(),
+            b',' => {
+                self.back = self.number.unwrap_or(0);
+                self.number = self.number.map(|_| 0);
             }
-            b'r' | b'w' => {
-                self.kind = x;
-                self.counting = true;
-                self
+            b'>' => {
+                let long = self.end_number();
+                self.repeat(long);
             }
-            b' ' => {
-                let digits = self.digits;
-                self.first = digits;
-                self
-            }
-            b'<' => {
-                self.counting = true;
-                self
-            }
-            b':' | b',' | b'>' => self.counted(data, x),
-            _ => self.taken(data, x),
+            _ => match Kind::of_letter(x) {
+                Some(kind) => self.ask(kind),
+                None => self.take(x),
+            },
+        }
+    }
+
+    fn begin_number(&mut self) {
+        self.number = Some(self.number.unwrap_or(0));
+    }
+
+    fn end_number(&mut self) -> usize {
+        self.number.take().unwrap_or(0)
+    }
+
+    // A letter. What is lent stands after it if the book is read or the sheet written.
+    fn ask(&mut self, kind: Kind) {
+        self.kind = kind;
+        if matches!(kind, Kind::Read | Kind::Write) {
+            self.begin_number();
         }
     }
 
     // A digit, of a number or of the data.
-    fn taken(mut self, data: &mut [u8], x: u8) -> Line {
-        if self.counting {
-            return self.count(x);
+    fn take(&mut self, x: u8) {
+        match self.number {
+            Some(number) => self.number = Some(with_digit(number, x)),
+            None => self.digits = digits::put(&mut self.data, self.digits, x),
         }
-        let digits = self.digits;
-        self.digits = text::digits::put(data, digits, x);
-        self
+    }
+
+    // Puts so many bytes after those that there are, like those that begin `back` bytes before.
+    fn repeat(&mut self, long: usize) {
+        let start = self.digits / 2;
+        let end = start.saturating_add(long);
+        for at in start..end {
+            if at < self.back || MOST <= at {
+                return;
+            }
+            self.data[at] = self.data[at - self.back];
+        }
+        if end <= MOST {
+            self.digits = 2 * end;
+        }
     }
 }

@@ -16,75 +16,57 @@ mod lent;
 mod line;
 mod sum;
 
-ghost use Rattle.std.specs.Prelude.{◌≡◌, ◌⊎◌, ◌≤◌, IfOk, OnErr, length};
+ghost use Rattle.std.specs.Prelude.{◌≡◌, ◌⊎◌, ◌≤◌, OnOk, OnErr};
 ghost use Rattle.text.specs.Lines.{next_line};
 
-use line::Line;
+use answers::Verdict;
+use line::{Kind, Line};
 use std::io;
 use std::io::Write;
+use text::answers::Told;
+use text::lines::Lines;
 
-// Runs a line, and puts its answer after the first `end` bytes of the buffer.
-fn run<W: Write>(
-    to: &mut W,
-    line: Line,
-    data: &[u8],
-    out: &mut [u8],
-    end: usize,
-) -> io::Result<usize>
-    ensures ok { IfOk result (λ r. (r ≡ 0) ⊎ (next_line end (length out.old) ≤ r)) }
-    ensures err { OnErr result (out.new ≡ out.old) }
+// Runs a line, and puts its answer.
+fn run<W: Write, const N: usize>(to: &mut W, lines: &mut Lines<N>, line: &Line) -> io::Result<()>
+    ensures ok { OnOk result ((lines.new.end ≡ 0) ⊎ (next_line lines.old.end N ≤ lines.new.end)) }
+    ensures err { OnErr result (lines.new.bytes ≡ lines.old.bytes) }
 {
-    let kind = line.kind;
-    match kind {
-        b'r' => lent::read(to, data, line.digits / 2, line.lent, out, end),
-        b'w' => lent::write_numbers(to, data, line.digits / 4, line.lent, out, end),
-        _ => asked::run(to, line, data, out, end),
+    match line.kind {
+        Kind::Judge => lines.put(to, Verdict(book::judge(line.all()))),
+        Kind::List => asked::list(to, lines, line.all()),
+        Kind::Price => lines.put(to, Told(price::price(line.book(), line.rest()))),
+        Kind::Cheapest => lines.put(to, Told(asked::cheapest(line.book(), line.rest()))),
+        Kind::Read => lines.put(to, lent::read(line.all(), line.lent)),
+        Kind::Write => lines.put(to, lent::write_numbers(line.all(), line.lent)),
     }
 }
 
-// Runs the lines that end in a block of the input, and answers where the line stands that goes on after it. An error is the writer's.
-fn run_block<W: Write>(
-    to: &mut W,
-    block: &[u8],
-    data: &mut [u8],
-    before: Line,
-) -> io::Result<Line> {
-    let mut space = [0u8; 4096];
-    let out: &mut [u8] = &mut space;
-    let mut end: usize = 0;
-    let mut state = before;
-    let mut i: usize = 0;
-    while i < block.len() {
-        let x = block[i];
-        if x == b'\n' {
-            end = run(to, state, data, out, end)?;
-            state = Line::new();
+// Runs the lines that end in a block of the input, and leaves in `line` the one that goes on after it. An error is the writer's.
+fn run_block<W: Write>(to: &mut W, block: &[u8], line: &mut Line) -> io::Result<()> {
+    let mut lines = Lines::<4096>::new();
+    for x in block {
+        if *x == b'\n' {
+            run(to, &mut lines, line)?;
+            line.begin();
         } else {
-            state = state.next(data, x);
+            line.next(*x);
         }
-        i += 1;
     }
-    text::lines::write(to, out, end)?;
-    Ok(state)
+    lines.write(to)
 }
 
-// A proved loop has to end, and nothing says that the input does. So the loop counts its turns down, from a number that no run uses up.
+// A proved loop has to end, and nothing says that the input does. So the loop counts its turns, up to a number that no run reaches.
 fn main(rt: HostRuntime) -> io::Result<()> {
     let mut from = rt.stdin();
     let mut to = rt.stdout();
     let mut block = [0u8; 65536];
-    let mut bytes = [0u8; 65536];
-    let input: &mut [u8] = &mut block;
-    let data: &mut [u8] = &mut bytes;
-    let mut state = Line::new();
-    let mut turns = u64::MAX;
-    while turns > 0 {
-        let n = text::blocks::read_full(&mut from, input)?;
+    let mut line = Line::new();
+    for _ in 0..u64::MAX {
+        let n = text::blocks::read_full(&mut from, &mut block)?;
         if n == 0 {
-            return Ok(());
+            break;
         }
-        state = run_block(&mut to, &input[..n], data, state)?;
-        turns -= 1;
+        run_block(&mut to, &block[..n], &mut line)?;
     }
     Ok(())
 }

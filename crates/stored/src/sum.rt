@@ -15,7 +15,7 @@ impl Sum {
     }
 
     fn with(self, x: u8) -> Sum {
-        let low = (self.low % BASE + x as u64) % BASE;
+        let low = (self.low % BASE + u64::from(x)) % BASE;
         Sum {
             low,
             high: (self.high % BASE + low) % BASE,
@@ -29,27 +29,30 @@ impl Sum {
     }
 }
 
-pub fn of_bytes(bytes: &[u8]) -> u64
-    ensures { result < 4294967296 }
-{
-    let mut sum = Sum::new();
-    let mut i: usize = 0;
-    while i < bytes.len() {
-        sum = sum.with(bytes[i]);
-        i += 1;
-    }
-    sum.value()
+// What a list is summed of: bytes, or numbers, which count as two bytes, the low one first.
+pub trait Summed: Copy {
+    fn added_to(self, sum: Sum) -> Sum;
 }
 
-pub fn of_numbers(numbers: &[u16]) -> u64
+impl Summed for u8 {
+    fn added_to(self, sum: Sum) -> Sum {
+        sum.with(self)
+    }
+}
+
+impl Summed for u16 {
+    fn added_to(self, sum: Sum) -> Sum {
+        let [low, high] = self.to_le_bytes();
+        sum.with(low).with(high)
+    }
+}
+
+pub fn of<T: Summed>(list: &[T]) -> u64
     ensures { result < 4294967296 }
 {
     let mut sum = Sum::new();
-    let mut i: usize = 0;
-    while i < numbers.len() {
-        let x = numbers[i];
-        sum = sum.with(bodies::low(x)).with(bodies::high(x));
-        i += 1;
+    for x in list {
+        sum = x.added_to(sum);
     }
     sum.value()
 }

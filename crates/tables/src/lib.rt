@@ -1,18 +1,16 @@
-// The companies' tables: the first bad entry.
+// The companies' tables of a book or a sheet: the first bad entry.
 #![tactic(auto)]
 
-ghost use Rattle.std.specs.Prelude.{◌≡◌, ℕ, ◌+◌, ◌<◌};
-ghost use Rattle.outline.specs.Book.{station_count, entry_place, table_of, fares_of};
-ghost use Rattle.outline.specs.Valid.{LaidOut};
-ghost use Rattle.outline.specs.Judging.{good_entry, row_check, table_check, tables_check, entry_offset};
-ghost use Rattle.layout.specs.Bodies.{CompanySized};
+ghost use Rattle.std.specs.Prelude.{◌≡◌, ◌<◌};
+ghost use Rattle.outline.specs.Judging.{good_entry, row_check, table_check, tables_check};
 
-use layout::bytes::wide;
-use outline::{Judged, Refusal};
+use outline::Refusal;
+use source::{Company, Source};
 
 const MOST_FARE: u16 = 9999;
 
-fn good_entry(i: u8, j: u8, x: u16) -> bool
+#[tactic(auto, unfolding(outline::specs::Judging::good_entry, outline::specs::Tests::choose))]
+fn good_entry(i: u16, j: u16, x: u16) -> bool
     ensures { result ≡ good_entry i j x }
 {
     if i == j {
@@ -21,51 +19,37 @@ fn good_entry(i: u8, j: u8, x: u16) -> bool
     x <= MOST_FARE
 }
 
-// The first bad entry of row i of a body that begins at `start` of the book.
-fn judge_row(body: &[u8], start: usize, i: u8) -> Judged
-    requires { CompanySized body.now × (i < station_count body.now) × (start < 65536) }
-    ensures { result ≡ row_check (λ (i j : ℕ). start + entry_place (station_count body.now) i j) (table_of body.now) i }
+// The first bad entry of row i.
+#[tactic(auto, unfolding(outline::specs::Refusals::first_below, outline::specs::Judging::row_check), using(laws::proofs::Firsts::first_more, laws::proofs::Firsts::first_ends))]
+fn judge_row<C: Company>(company: C, i: u16) -> Result<(), Refusal>
+    requires { i < (C.table company).stations }
+    ensures { result ≡ row_check (C.place company) (C.table company) i }
 {
-    let n = body[0];
-    let mut j: u8 = 0;
-    while j < n {
-        if !good_entry(i, j, layout::fare(body, i, j)) {
-            return Judged::Refused(Refusal::BadEntry(start + layout::entry_place(n, i, j)));
+    for j in 0..company.stations() {
+        if !good_entry(i, j, company.entry(i, j)) {
+            return Err(Refusal::BadEntry(company.place(i, j)));
         }
-        j += 1;
     }
-    Judged::Good
+    Ok(())
 }
 
-fn judge_table(body: &[u8], start: usize) -> Judged
-    requires { CompanySized body.now × (start < 65536) }
-    ensures { result ≡ table_check (λ (i j : ℕ). start + entry_place (station_count body.now) i j) (table_of body.now) }
+#[tactic(auto, unfolding(outline::specs::Refusals::first_below, outline::specs::Judging::table_check), using(laws::proofs::Firsts::first_more, laws::proofs::Firsts::first_ends))]
+fn judge_table<C: Company>(company: C) -> Result<(), Refusal>
+    ensures { result ≡ table_check (C.place company) (C.table company) }
 {
-    let n = body[0];
-    let mut i: u8 = 0;
-    while i < n {
-        let found = judge_row(body, start, i);
-        let Judged::Good = found else {
-            return found;
-        };
-        i += 1;
+    for i in 0..company.stations() {
+        judge_row(company, i)?;
     }
-    Judged::Good
+    Ok(())
 }
 
 // The first bad entry of all tables.
-pub fn judge(book: &[u8]) -> Judged
-    requires { LaidOut book.now }
-    ensures { result ≡ tables_check (entry_offset book.now) (fares_of book.now) }
+#[tactic(auto, unfolding(outline::specs::Refusals::first_below, outline::specs::Judging::tables_check), using(laws::proofs::Firsts::first_more, laws::proofs::Firsts::first_ends))]
+pub fn judge<S: Source>(source: S) -> Result<(), Refusal>
+    ensures { result ≡ tables_check (S.place source) (S.fares source) }
 {
-    let n = layout::companies(book);
-    let mut c: u8 = 0;
-    while c < n {
-        let found = judge_table(layout::body(book, wide(c)), layout::offset(book, wide(c)));
-        let Judged::Good = found else {
-            return found;
-        };
-        c += 1;
+    for c in 0..source.companies() {
+        judge_table(source.company(c))?;
     }
-    Judged::Good
+    Ok(())
 }

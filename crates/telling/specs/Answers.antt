@@ -6,8 +6,7 @@ use Rattle.outline.specs.declared.Ride.{Ride}
 use Rattle.outline.specs.declared.Question.{Question}
 use Rattle.outline.specs.declared.Answer.{Answer}
 use Rattle.outline.specs.Questions.{Asked}
-use Rattle.outline.specs.declared.Written.{Written}
-use Rattle.outline.specs.Lending.{answered, leaves}
+use Rattle.outline.specs.Lending.{answered, leaves, Written}
 use Rattle.telling.specs.Word.{written_word}
 
 -- "how it was paid (the rule's number, or 255 for full)"

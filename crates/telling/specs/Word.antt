@@ -1,11 +1,8 @@
 -- The 64-bit word that each function of include/fares.h returns.
-use Rattle.std.specs.Prelude.{ℕ, ◌+◌, ◌*◌}
+use Rattle.std.specs.Prelude.{ℕ, ◌+◌, ◌*◌, Ok, Err}
 use Rattle.outline.specs.declared.Refusal.{Refusal}
-use Rattle.outline.specs.declared.Judged.{Judged}
-use Rattle.outline.specs.declared.Judged.TheVariants.{Good, Refused}
-use Rattle.outline.specs.Refusals.{number_of, place_of}
-use Rattle.outline.specs.declared.Written.{Written}
-use Rattle.outline.specs.Lending.{count_of, refusal_of, refusal_place_of}
+use Rattle.outline.specs.Refusals.{number_of, place_of, Judged}
+use Rattle.outline.specs.Lending.{count_of, refusal_of, refusal_place_of, Written}
 
 -- "bits 0 to 31 how many were written, bits 32 to 39 the refusal's number (0: none), bits 40 to 63 its place"
 abbrev pub word : ℕ → ℕ → ℕ → ℕ
@@ -20,8 +17,8 @@ refused_word x = word 0 (number_of x) (place_of x)
 
 -- "0: good"
 abbrev pub judged_word : Judged → ℕ
-judged_word Good = 0
-judged_word (Refused x) = refused_word x
+judged_word (Ok _) = 0
+judged_word (Err x) = refused_word x
 
 abbrev pub written_word : Written → ℕ
 written_word w = word (count_of w) (refusal_of w) (refusal_place_of w)

@@ -3,12 +3,9 @@ ghost use Rattle.std.specs.Prelude.{◌≡◌, ◌≤◌, length};
 ghost use Rattle.outline.specs.Lending.{answered, leaves, filled};
 ghost use Rattle.telling.specs.Answers.{paid_number, place_numbers, places_numbers, answer_numbers};
 
-use layout::bytes::number;
-use outline::{Answer, Judged, Paid, Refusal, Ride, Written};
+use outline::{Answer, Paid, Refusal, Ride};
 
 const NUMBERS: usize = 18;
-
-const PLACES: usize = 4;
 
 const PLACE: usize = 4;
 
@@ -19,7 +16,7 @@ fn paid_number(p: Paid) -> u16
 {
     match p {
         Paid::Full => 255,
-        Paid::ByRule(rule) => number(rule),
+        Paid::ByRule(rule) => u16::from(rule),
     }
 }
 
@@ -28,24 +25,21 @@ fn put_place(p: Ride, answer: &mut [u16])
     requires { 4 ≤ length answer.old }
     ensures { answer.new ≡ filled (place_numbers p) answer.old }
 {
-    let paid = p.paid;
-    answer[0] = number(p.company);
-    answer[1] = number(p.boarding);
-    answer[2] = number(p.alighting);
-    answer[3] = paid_number(paid);
+    answer[0] = u16::from(p.company);
+    answer[1] = u16::from(p.boarding);
+    answer[2] = u16::from(p.alighting);
+    answer[3] = paid_number(p.paid);
 }
 
 // The numbers of the four places.
+#[tactic(auto, using(crate::proofs::Putting::put_none, crate::proofs::Putting::put_more, crate::proofs::Putting::put_all))]
 fn put_places(a: Answer, answer: &mut [u16])
     requires { (length a.places ≡ 4) × (16 ≤ length answer.old) }
     ensures { answer.new ≡ filled (places_numbers a.places) answer.old }
 {
-    let mut i: usize = 0;
-    while i < PLACES {
+    for (i, place) in a.places.iter().enumerate() {
         let at = PLACE * i;
-        let p = a.places[i];
-        put_place(p, &mut answer[at..]);
-        i += 1;
+        put_place(*place, &mut answer[at..]);
     }
 }
 
@@ -55,23 +49,20 @@ fn put_numbers(a: Answer, answer: &mut [u16])
     ensures { answer.new ≡ filled (answer_numbers a) answer.old }
 {
     answer[0] = a.fare;
-    answer[1] = number(a.rides);
+    answer[1] = u16::from(a.rides);
     put_places(a, &mut answer[FIRST..]);
 }
 
 // An answer put into the lent list: refused, without room, or written.
-pub fn put(a: Answer, answer: &mut [u16]) -> Written
+pub fn put(a: Answer, answer: &mut [u16]) -> Result<usize, Refusal>
     requires { length a.places ≡ 4 }
     ensures value { result ≡ answered a.judged (answer_numbers a) answer.old }
     ensures answer_after { answer.new ≡ leaves (answered a.judged (answer_numbers a) answer.old) (answer_numbers a) answer.old }
 {
-    let judged = a.judged;
-    if let Judged::Refused(x) = judged {
-        return Written::NotWritten(x);
-    }
+    a.judged?;
     if answer.len() < NUMBERS {
-        return Written::NotWritten(Refusal::NoRoom);
+        return Err(Refusal::NoRoom);
     }
     put_numbers(a, answer);
-    Written::Wrote(NUMBERS)
+    Ok(NUMBERS)
 }

@@ -1,77 +1,87 @@
 // The line of an answer.
-ghost use Rattle.std.specs.Prelude.{◌≡◌, ◌≤◌, IfOk, OnErr, length};
-ghost use Rattle.text.specs.Lines.{next_line};
+ghost use Rattle.std.specs.Prelude.{◌≡◌, Some, flat_map, take};
+ghost use Rattle.text.specs.Answers.{refused_text, ride_text, answer_text};
 
-use crate::lines;
-use outline::{Answer, Judged, Paid, Ride};
-use std::io;
-use std::io::Write;
+use book::refusal;
+use outline::{Answer, Paid, Refusal, Ride};
+use std::fmt;
 
-fn put_after_space(out: &mut [u8], at: usize, x: u8) -> usize
-    ensures { at ≤ result }
-{
-    let number = lines::put_text(out, at, b" ");
-    lines::put_number(out, number, x as u64)
-}
+// `refused`, the refusal's number and its place.
+#[derive(Drop)]
+pub struct Refused(pub Refusal);
 
-fn put_paid(out: &mut [u8], at: usize, paid: Paid) -> usize
-    ensures { at ≤ result }
-{
-    match paid {
-        Paid::Full => lines::put_text(out, at, b" full"),
-        Paid::ByRule(k) => put_after_space(out, at, k),
+impl fmt::Display for Refused {
+    ghost output = { λ x. Some (refused_text x.0) };
+
+    fn fmt<W: fmt::Write>(&self, f: &mut fmt::Formatter<W>) -> fmt::Result {
+        write!(
+            f,
+            "refused {} {}",
+            refusal::number(self.0),
+            refusal::place(self.0)
+        )
     }
 }
 
-fn put_ride(out: &mut [u8], at: usize, r: Ride) -> usize
-    ensures { at ≤ result }
-{
-    let boarding = put_after_space(out, at, r.company);
-    let alighting = put_after_space(out, boarding, r.boarding);
-    let end = put_after_space(out, alighting, r.alighting);
-    let paid = r.paid;
-    put_paid(out, end, paid)
-}
+// A ride, and how it was paid for: `full`, or the rule's number.
+#[derive(Drop)]
+struct Ridden(Ride);
 
-// Puts the places that are used, of so many.
-fn put_rides(out: &mut [u8], at: usize, places: [Ride; 4], n: u8) -> usize
-    ensures { at ≤ result }
-{
-    let mut end = at;
-    let mut i: u8 = 0;
-    while i < n {
-        if 4 <= i {
-            return end;
+impl fmt::Display for Ridden {
+    ghost output = { λ x. Some (ride_text x.0) };
+
+    fn fmt<W: fmt::Write>(&self, f: &mut fmt::Formatter<W>) -> fmt::Result {
+        let Ride {
+            company,
+            boarding,
+            alighting,
+            paid,
+        } = self.0;
+        match paid {
+            Paid::Full => write!(f, " {company} {boarding} {alighting} full"),
+            Paid::ByRule(rule) => write!(f, " {company} {boarding} {alighting} {rule}"),
         }
-        let r = places[i as usize];
-        end = put_ride(out, end, r);
-        i += 1;
     }
-    end
 }
 
-fn put_price(out: &mut [u8], at: usize, a: Answer) -> usize
-    ensures { at ≤ result }
-{
-    let fare = lines::put_text(out, at, b"fare ");
-    let word = lines::put_number(out, fare, a.fare as u64);
-    let rides = lines::put_text(out, word, b" rides ");
-    let first = lines::put_number(out, rides, a.rides as u64);
-    let places = a.places;
-    let end = put_rides(out, first, places, a.rides);
-    lines::put_text(out, end, b"\n")
+// Rides, one after the other.
+#[derive(Drop)]
+struct Rides<'a>(&'a [Ride]);
+
+impl fmt::Display for Rides<'_> {
+    ghost output = { λ x. Some (flat_map ride_text x.0.now) };
+
+    fn fmt<W: fmt::Write>(&self, f: &mut fmt::Formatter<W>) -> fmt::Result {
+        for ride in self.0 {
+            write!(f, "{}", Ridden(*ride))?;
+        }
+        Ok(())
+    }
 }
 
-// Puts the line of an answer after the first n bytes of the buffer, and answers where it ends.
-pub fn put<W: Write>(to: &mut W, out: &mut [u8], n: usize, a: Answer) -> io::Result<usize>
-    ensures ok { IfOk result (λ end. next_line n (length out.old) ≤ end) }
-    ensures err { OnErr result (out.new ≡ out.old) }
-    ensures full { OnErr result (next_line n (length out.old) ≡ 0) }
+// The rides of an answer: of its four places, those that are used.
+fn used(answer: &Answer) -> &[Ride]
+    ensures { result.now ≡ take answer.now.rides answer.now.places }
 {
-    let at = lines::room(to, out, n)?;
-    let judged = a.judged;
-    match judged {
-        Judged::Good => Ok(put_price(out, at, a)),
-        Judged::Refused(x) => Ok(lines::put_refusal(out, at, x)),
+    let places = &answer.places[..];
+    &places[..places.len().min(usize::from(answer.rides))]
+}
+
+// The line of an answer: the fare, the number of rides and each ride, or the refusal.
+#[derive(Drop)]
+pub struct Told(pub Answer);
+
+impl fmt::Display for Told {
+    ghost output = { λ x. Some (answer_text x.0) };
+
+    fn fmt<W: fmt::Write>(&self, f: &mut fmt::Formatter<W>) -> fmt::Result {
+        let answer = &self.0;
+        match answer.judged {
+            Ok(()) => {
+                let rides = Rides(used(answer));
+                writeln!(f, "fare {} rides {}{rides}", answer.fare, answer.rides)
+            }
+            Err(x) => writeln!(f, "{}", Refused(x)),
+        }
     }
 }

@@ -6,7 +6,7 @@ ghost use Rattle.std.specs.Io.KnownBytes.{Consumes, IsAtEnd};
 use std::io;
 use std::io::Read;
 
-// Reads until the block is full or the input ends, and answers how many bytes were read.
+// Reads until the block is full or the input ends, and answers how many bytes were read. A turn goes as far as `read` did, so no `for` fits.
 pub fn read_full<R: Read>(from: &mut R, block: &mut [u8]) -> io::Result<usize>
     ensures in_bounds { ReadsAtMost result block.new }
     ensures read { IfOk result (λ n. Consumes (R.remaining from.old) (R.remaining from.new) (take n block.new)) }

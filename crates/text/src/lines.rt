@@ -1,85 +1,78 @@
 // Lines of text, gathered in a buffer.
-ghost use Rattle.std.specs.Prelude.{◌≡◌, ◌≤◌, IfOk, OnErr, OnOk, length, take};
+ghost use Rattle.std.specs.Prelude.{◌≡◌, ◌≤◌, OnErr, OnOk, take};
 ghost use Rattle.std.specs.Io.KnownBytes.{Appends};
-ghost use Rattle.text.specs.Lines.{Wrote, next_line};
+ghost use Rattle.text.specs.Lines.{Wrote, WroteLine, next_line};
 
-use book::refusal;
-use outline::Refusal;
+use std::fmt::{Display, InlineText};
 use std::io;
 use std::io::Write;
 
 // More than the longest line has.
 const ROOM: usize = 128;
 
-// Writes the first n bytes of the buffer. An error is the writer's, and says nothing of what it took before.
-pub fn write<W: Write>(to: &mut W, out: &[u8], n: usize) -> io::Result<()>
-    ensures ok { n ≤ length out.now → OnOk result (Appends (W.contents to.old) (W.contents to.new) (take n out.now)) }
-    ensures err { OnErr result (n ≤ length out.now) }
-{
-    if n <= out.len() {
-        return to.write_all(&out[0..n]);
-    }
-    Ok(())
+// What was gathered, in the first `end` bytes.
+#[derive(Drop)]
+pub struct Lines<const N: usize> {
+    bytes: [u8; N],
+    end: usize,
+    ghost within: { end ≤ N },
 }
 
-// Where the next line goes. Where little room is left after the first n bytes of the buffer, these are written, and it goes to the start.
-#[tactic(auto, unfolding(outline::specs::Tests::both, outline::specs::Tests::choose))]
-pub fn room<W: Write>(to: &mut W, out: &[u8], n: usize) -> io::Result<usize>
-    ensures ok { IfOk result (λ at. at ≡ next_line n (length out.now)) }
-    ensures err { OnErr result (next_line n (length out.now) ≡ 0) }
-{
-    if out.len() <= n {
-        write(to, out, n)?;
-        return Ok(0);
-    }
-    if out.len() - n < ROOM {
-        write(to, out, n)?;
-        return Ok(0);
-    }
-    Ok(n)
-}
-
-// Puts text at `at`, as far as there is room for it, and answers where it ends.
-pub fn put_text(out: &mut [u8], at: usize, text: &[u8]) -> usize
-    ensures { Wrote out.old at text.now out.new result }
-{
-    let mut end = at;
-    let mut i: usize = 0;
-    while i < text.len() {
-        if out.len() <= end {
-            return end;
+impl<const N: usize> Lines<N> {
+    pub fn new() -> Lines<N>
+        ensures { result.end ≡ 0 }
+    {
+        Lines {
+            bytes: [0; N],
+            end: 0,
         }
-        out[end] = text[i];
-        end += 1;
-        i += 1;
     }
-    end
-}
 
-pub fn put_number(out: &mut [u8], at: usize, n: u64) -> usize
-    ensures { at ≤ result }
-{
-    let mut end = at;
-    if 10 <= n {
-        end = put_number(out, at, n / 10);
+    // Writes what was gathered, and begins anew. An error is the writer's, and says nothing of what it took before.
+    pub fn write<W: Write>(&mut self, to: &mut W) -> io::Result<()>
+        ensures ok { OnOk result (Appends (W.contents to.old) (W.contents to.new) (take self.old.end self.old.bytes)) }
+        ensures empty { OnOk result (self.new.end ≡ 0) }
+        ensures err { OnErr result (self.new.end ≡ self.old.end) }
+        ensures same { self.new.bytes ≡ self.old.bytes }
+    {
+        to.write_all(&self.bytes[..self.end])?;
+        self.end = 0;
+        Ok(())
     }
-    put_text(out, end, &[b'0' + (n % 10) as u8])
-}
 
-// Puts `refused`, the refusal's number and its place.
-pub fn put_refused(out: &mut [u8], at: usize, x: Refusal) -> usize
-    ensures { at ≤ result }
-{
-    let number = put_text(out, at, b"refused ");
-    let space = put_number(out, number, refusal::number(x) as u64);
-    let place = put_text(out, space, b" ");
-    put_number(out, place, refusal::place(x) as u64)
-}
+    // Makes room for a line: where little is left, what was gathered is written, and the line goes to the start.
+    #[tactic(auto, unfolding(outline::specs::Tests::both, outline::specs::Tests::choose))]
+    fn make_room<W: Write>(&mut self, to: &mut W) -> io::Result<()>
+        ensures ok { OnOk result (self.new.end ≡ next_line self.old.end N) }
+        ensures err { OnErr result (self.new.end ≡ self.old.end) }
+        ensures full { OnErr result (next_line self.old.end N ≡ 0) }
+        ensures same { self.new.bytes ≡ self.old.bytes }
+    {
+        if N - self.end < ROOM {
+            self.write(to)?;
+        }
+        Ok(())
+    }
 
-// Puts the line of a refusal.
-pub fn put_refusal(out: &mut [u8], at: usize, x: Refusal) -> usize
-    ensures { at ≤ result }
-{
-    let end = put_refused(out, at, x);
-    put_text(out, end, b"\n")
+    // Puts text after what was gathered, as far as there is room for it.
+    pub fn put_text(&mut self, text: &[u8])
+        ensures { Wrote self.old.bytes self.old.end text.now self.new.bytes self.new.end }
+    {
+        let n = text.len().min(N - self.end);
+        let all = &mut self.bytes[..];
+        all[self.end..self.end + n].copy_from_slice(&text[..n]);
+        self.end += n;
+    }
+
+    // Puts a line.
+    pub fn put<W: Write, D: Display + Drop>(&mut self, to: &mut W, line: D) -> io::Result<()>
+        ensures text { OnOk result (WroteLine self.old.bytes (next_line self.old.end N) (D.output line) self.new.bytes self.new.end) }
+        ensures ok { OnOk result (next_line self.old.end N ≤ self.new.end) }
+        ensures err { OnErr result (self.new ≡ self.old) }
+        ensures full { OnErr result (next_line self.old.end N ≡ 0) }
+    {
+        self.make_room(to)?;
+        self.put_text(InlineText::<ROOM>::of(line).as_str().as_bytes());
+        Ok(())
+    }
 }

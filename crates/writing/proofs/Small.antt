@@ -9,7 +9,8 @@ use lib.Dec.{ltb}
 use borrow.Author.Tests.{ltb-true, ltb-false}
 use Rattle.outline.specs.Numbers.{most_stations}
 use Rattle.outline.specs.declared.Link.{Link}
-use Rattle.outline.specs.Fares.{Rule, company_at}
+use Rattle.outline.specs.declared.Rule.{Rule}
+use Rattle.outline.specs.Fares.{company_at}
 use Rattle.outline.specs.Network.{Network}
 use Rattle.outline.specs.Sheet.{companies_in, links_in, rules_in, link_start, link_in, rule_start, rule_in, network_in}
 use Rattle.outline.specs.Valid.{GoodLink, GoodRule}

@@ -45,13 +45,18 @@ parts s laid =
       few_rules = laid.counts.rules;
     }
 
--- the first body begins so far on, the companies have so many bytes and the links so many, of a book in a list with so much room
-pub record Places (s : List ℕ) (first companies links room : ℕ) : Type 0 where
-  pub parts : Parts s
-  pub first_at : first ≡ 4 + 4 * (companies_in s + 2)
-  pub companies_long : companies ≡ length (in_order (body_in (fares_in s)) (companies_in s))
-  pub links_long : links ≡ 4 * links_in s
-  pub fits : length (book_of (fares_in s)) ≤ room
+-- what the parts tell, each alone
+pub companies_few : (s : List ℕ) → SheetLaidOut s → length (in_order (body_in (fares_in s)) (companies_in s)) ≤ 51216
+companies_few s laid = (parts s laid).companies
+
+pub links_long : (s : List ℕ) → SheetLaidOut s → length (body_in (fares_in s) (companies_in s)) ≡ 4 * links_in s
+links_long s laid = (parts s laid).links
+
+pub rules_long : (s : List ℕ) → SheetLaidOut s → length (body_in (fares_in s) (companies_in s + 1)) ≡ 33 * rules_in s
+rules_long s laid = (parts s laid).rules
+
+pub book_long : (s : List ℕ) → SheetLaidOut s → length (book_of (fares_in s)) ≡ 4 + 4 * (companies_in s + 2) + length (in_order (body_in (fares_in s)) (companies_in s)) + 4 * links_in s + 33 * rules_in s
+book_long s laid = (parts s laid).book
 
 -- ---- a turn of a loop over the companies
 

@@ -1,43 +1,14 @@
 -- `bodies::put_links` meets its contract.
-use mathlib.Core.List.{List}
-use lib.ListN.{length, length-take, length-drop}
-use Rattle.filling.proofs.InOrder.{order_length, order_turn}
 use native.Mathlib.Omega.{arith}
-use borrow.Author.Rules.{rules}
-use mathlib.Core.Path.{◌≡◌, refl, sym, ap, ◌∙◌}
-use Prim.Native.Nat.{ℕ, ◌+◌, ◌*◌, ◌≤◌}
-use Rattle.outline.specs.Lending.{filled}
-use Rattle.outline.specs.Tests.{in_order}
+use Prim.Native.Nat.{ℕ, ◌+◌, ◌*◌}
 use Rattle.outline.specs.Sheet.{link_in}
 use Rattle.outline.specs.Writing.{link_bytes}
-use Rattle.filling.proofs.Filled.{filled_none, length-filled}
+use Rattle.filling.proofs.InOrder.{order_turn_sized}
 use Rattle.filling.proofs.Sizes.{link_bytes_length}
 use Rattle.bodies.proofs.put_links.Goals as goal
 
-pub loop-k-init : goal.loop-k-init
-unfolding in_order
-loop-k-init c = (search rules, refl, filled_none _)
-
-pub overflow_add-at : goal.overflow_add-at
-overflow_add-at c = omega (arith, c.links_numbers.ensures.0, c.loop-k-test.true, c.requires.n_bound.1)
-
-pub byte-requires : goal.byte-requires
-byte-requires c = omega (arith, c.loop-k-test.true, c.requires.n_bound.0)
-
-pub put_link-requires : goal.put_link-requires
-put_link-requires c =
-    (record { link_numbers_in_bounds = (omega (arith, c.requires.n_bound), simp (length-take, length-drop) (omega (arith, c.loop-k.invariant, c.requires.n_bound))); link_bytes = rw c.links_numbers.ensures.0 (c.requires.by_index _ c.loop-k-test.true) })
-
 pub loop-k-preserved : goal.loop-k-preserved
 loop-k-preserved c =
-    let to : c.links_length-to.result ≡ 4 * c.loop-k.k = omega arith in
-    let k = c.loop-k.k in
-    let list : ℕ → List ℕ = λ j. link_bytes (link_in c.args.sheet.now (c.args.first + 4 * j)) in
-    let long : (n : ℕ) → n ≤ c.args.n → length (in_order list n) ≡ 4 * n = λ n h. order_length list 4 n (λ j l. link_bytes_length (link_in c.args.sheet.now (c.args.first + 4 * j))) in
-    let room = long c.args.n (omega arith) in
-    let more = long (k + 1) (omega (arith, c.loop-k-test.true)) in
-    let same = order_turn list c.args.n k c.args.book.now _ _ _ c.loop-k-test.true (omega (arith, c.requires.n_bound)) c.loop-k.invariant.2 (to ∙ sym (long k (omega (arith, c.loop-k-test.true)))) (rw c.links_numbers.ensures.0 at c.put_link.ensures) in
-    (search rules, ap length same ∙ length-filled _ c.args.book.now (omega (arith, c.requires.n_bound)), same)
-
-pub returns : goal.returns
-returns c = let e : c.loop-k.k ≡ c.args.n = omega arith in c.loop-k.invariant.2 ∙ ap (λ (j : ℕ). filled (in_order (λ (j : ℕ). link_bytes (link_in c.args.sheet.now (c.args.first + 4 * j))) j) c.args.book.now) e
+    let link = λ (j : ℕ). link_in c.args.sheet.now (c.args.first + 4 * j) in
+    order_turn_sized (λ (j : ℕ). link_bytes (link j)) 4 c.args.n c.loop-k.k c.args.book.now _ _ _ (λ j l. link_bytes_length (link j))
+    c.loop-k-test.true (omega (arith, c.requires.n_bound)) c.loop-k.invariant (omega arith) (rw c.links_numbers.ensures.0 at c.put_link.ensures)

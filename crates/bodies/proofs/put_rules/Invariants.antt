@@ -1,7 +1,6 @@
 -- `bodies::put_rules` meets its contract.
-use lib.ListN.{length}
 use mathlib.Core.Path.{◌≡◌}
-use Prim.Native.Nat.{ℕ, ◌+◌, ◌*◌, ◌-◌, ◌≤◌}
+use Prim.Native.Nat.{ℕ, ◌+◌, ◌*◌}
 use Rattle.outline.specs.Lending.{filled}
 use Rattle.outline.specs.Tests.{in_order}
 use Rattle.outline.specs.Sheet.{rule_in}
@@ -9,7 +8,4 @@ use Rattle.outline.specs.Writing.{rule_bytes}
 use Rattle.bodies.proofs.put_rules.Given as goal
 
 abbrev pub invariant-loop-k : goal.invariant-loop-k
-invariant-loop-k l = (l.k ≤ l.n) × (length l.book ≡ length l.initial.book) × (l.book ≡ filled (in_order (λ (j : ℕ). rule_bytes (rule_in l.sheet (l.first + 32 * j))) l.k) l.initial.book)
-
-abbrev pub decreases-loop-k : goal.decreases-loop-k
-decreases-loop-k l = l.n - l.k
+invariant-loop-k l = l.book ≡ filled (in_order (λ (j : ℕ). rule_bytes (rule_in l.sheet (l.first + 32 * j))) l.k) l.initial.book

@@ -1,13 +1,13 @@
 -- `gate::fares_check` meets its contract.
-use mathlib.Core.Path.{sym, ◌∙◌}
+use Rattle.std.proofs.Common.{sym}
 use Rattle.fitting.proofs.Places.{book_places}
 use Rattle.gate.proofs.fares_check.Goals as goal
 
 pub refused-requires : goal.refused-requires
-refused-requires c = book_places _ _ (sym c.judge-found.ensures ∙ c.in-Refused.is)
+refused-requires c = book_places _ _ (sym c.in-Err.ensures)
 
-pub returns-in-Good : goal.returns-in-Good
-returns-in-Good c = rw (← c.judge-found.ensures, c.in-Good.is)
+pub returns-in-Ok : goal.returns-in-Ok
+returns-in-Ok c = rw (← c.in-Ok.ensures)
 
-pub returns-in-Refused : goal.returns-in-Refused
-returns-in-Refused c = rw (← c.judge-found.ensures, c.in-Refused.is) c.refused.ensures
+pub returns-in-Err : goal.returns-in-Err
+returns-in-Err c = rw (← c.in-Err.ensures) c.refused.ensures

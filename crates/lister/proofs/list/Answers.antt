@@ -11,15 +11,11 @@ use Rattle.lister.proofs.list.Goals as goal
 pub loop-out-init : goal.loop-out-init
 loop-out-init g c = record {
   due = subst (Due _) (sym c.first-row.ensures) (due_first _);
-  room = omega arith;
   written = ([], Appends-nil _, subst (λ r. Written c.args.book.now r []) (sym c.first-row.ensures) (nothing_written c.args.book.now));
 }
 
 pub put-end-requires : goal.put-end-requires
-put-end-requires g c = (c.loop-out.invariant.due, c.loop-out.invariant.room)
-
-pub write-requires : goal.write-requires
-write-requires g c = omega (arith, c.put-end.ensures.1, c.loop-out.invariant.room)
+put-end-requires g c = (c.loop-out.invariant.due, omega arith)
 
 pub after-row-requires : goal.after-row-requires
 after-row-requires g c = c.loop-out.invariant.due
@@ -35,10 +31,9 @@ loop-out-preserved g c =
     let row = c.loop-out.row in
     let done = c.loop-out.invariant.written.0 in
     let text = row_text (network b) row in
-    let put = subst (Appends _ _) (put_first _ _ _ _ c.put-end.ensures.0) c.in_ok-write.ensures in
+    let put = subst (Appends _ _) (put_first _ _ _ _ c.put-end.ensures.0) c.in_ok-write_all.ensures.bytes in
     record {
       due = subst (Due _) (sym c.after-row.ensures) (due_after _ _ c.loop-out.invariant.due);
-      room = omega (arith, c.loop-out.invariant.room);
       written = (
         done ++ text,
         Appends-trans _ _ _ done text c.loop-out.invariant.written.1 put,

@@ -1,5 +1,5 @@
--- What was written, and what the rows still put, is the whole output. Each row is one that the book has, and `out` has room for it.
-use Rattle.std.proofs.Common.{ℕ, ◌≤◌, List, length}
+-- What was written, and what the rows still put, is the whole output. Each row is one that the book has.
+use Rattle.std.proofs.Common.{ℕ, List}
 use Rattle.std.specs.Io.KnownBytes.{Appends}
 use Rattle.rows.specs.Rows.{Due}
 use Rattle.rows.proofs.Walk.{left}
@@ -9,7 +9,6 @@ use Rattle.lister.proofs.list.Given as goal
 abbrev pub invariant-loop-out : goal.invariant-loop-out
 invariant-loop-out g l = record {
   due : Due l.book l.row;
-  room : 23040 ≤ length l.out;
   written : (done : List ℕ) × Appends (g.W.Write.contents l.initial.to) (g.W.Write.contents l.to) done × Written l.book l.row done;
 }
 

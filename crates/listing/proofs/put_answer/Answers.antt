@@ -5,4 +5,4 @@ use Rattle.listing.proofs.put_answer.Goals as goal
 
 pub returns : goal.returns
 unfolding answer_fields
-returns c = put_joined 6 6 c.put_fare-rides.ensures (rw c.wide.ensures.0 at c.put_field.ensures) c.requires
+returns c = put_joined 6 6 c.put_fare-rides.ensures (rw c.from.ensures at c.put_field.ensures) c.requires

@@ -5,4 +5,4 @@ use Rattle.listing.proofs.put_station.Goals as goal
 
 pub returns : goal.returns
 unfolding station_fields
-returns c = put_joined 6 6 (rw c.wide.ensures.0 at c.put_field-next.ensures) (rw c.wide-2.ensures.0 at c.put_field.ensures) c.requires
+returns c = put_joined 6 6 (rw c.from.ensures at c.put_field-next.ensures) (rw c.from-2.ensures at c.put_field.ensures) c.requires

@@ -1,53 +1,35 @@
 -- `listing::put_to` meets its contract.
-use mathlib.Core.Path.{◌≡◌, refl, sym, ap}
+use Prim.Native.Nat.{◌*◌}
+use mathlib.Core.Path.{◌≡◌, sym, ap}
 use native.Mathlib.Omega.{arith}
 use Rattle.outline.specs.Book.{network}
 use Rattle.outline.specs.Tests.{in_order}
 use Rattle.laws.proofs.Reading.{stations_few}
 use Rattle.filling.proofs.InOrder.{order_more}
 use Rattle.listing.specs.Lines.{lines_to}
-use Rattle.listing.proofs.Putting.{put_nothing, put_same, put_then}
+use Rattle.listing.proofs.Putting.{put_nothing, put_same, put_joined}
 use Rattle.listing.proofs.put_to.Invariants.{nth}
 use Rattle.listing.proofs.put_to.Goals as goal
 
-pub stations-n-requires : goal.stations-n-requires
-stations-n-requires c = (c.requires.0.laid_out, c.requires.2)
-
-pub loop-j-init : goal.loop-j-init
+pub loop-number-init : goal.loop-number-init
 unfolding in_order
-loop-j-init c = (c.stations-n.ensures, omega arith, refl, put_nothing _ _, omega arith)
+loop-number-init c = (put_nothing _ _, omega arith)
 
 pub put_pair-end-requires : goal.put_pair-end-requires
 put_pair-end-requires c =
-    let i = c.loop-j.invariant in
-    let few = stations_few _ c.requires.0.laid_out _ c.requires.2 in
-    let t = c.loop-j-test.true in
-    (c.requires.0, c.requires.1, record { company = c.requires.2; number = rw i.0 at t }, omega (arith, i.0, i.2, i.4, c.requires.3))
+    let few = stations_few _ c.args.good.book.laid_out _ c.requires.1 in
+    (c.requires.0, record { company = c.requires.1; number = rw c.stations-n.ensures at c.loop-number-test.true }, omega (arith, c.stations-n.ensures, c.loop-number.invariant.1, c.loop-number-test.true, c.requires.2))
 
-pub loop-j-smaller : goal.loop-j-smaller
-loop-j-smaller c = omega (arith, c.loop-j-test.true)
-
-pub loop-j-preserved : goal.loop-j-preserved
-loop-j-preserved c =
-    let i = c.loop-j.invariant in
-    let few = stations_few _ c.requires.0.laid_out _ c.requires.2 in
-    let t = c.loop-j-test.true in
-    let line = c.put_pair-end.ensures in
-    let f = nth (network c.args.book.now) c.args.x c.args.company in (
-      i.0,
-      omega (arith, t),
-      omega (arith, i.2),
-      put_same (sym (order_more f c.loop-j.j)) (put_then i.3 line.0 (omega (arith, i.0, i.3.ends, i.4, line.0.ends, line.1, c.requires.3))),
-      omega (arith, i.4, line.1),
-    )
-
-pub shape_of-out : goal.shape_of-out
-shape_of-out c = c.loop-j.invariant.2
+pub loop-number-preserved : goal.loop-number-preserved
+loop-number-preserved c =
+    let few = stations_few _ c.args.good.book.laid_out _ c.requires.1 in
+    let f = nth (network c.args.good.book.bytes.now) c.args.x c.args.company in
+    let more = put_joined (36 * c.loop-number.number) 36 c.loop-number.invariant c.put_pair-end.ensures (omega (arith, c.stations-n.ensures, c.loop-number-test.true, c.requires.2)) in
+    (put_same (sym (order_more f c.loop-number.number)) more.0, omega (arith, more.1))
 
 pub returns : goal.returns
 unfolding lines_to
 returns c =
-    let i = c.loop-j.invariant in
-    let few = stations_few _ c.requires.0.laid_out _ c.requires.2 in
-    let all : c.loop-j.j ≡ (network c.args.book.now).stations c.args.company = omega (arith, c.loop-j-test.false, i.0, i.1) in
-    (put_same (ap (in_order (nth (network c.args.book.now) c.args.x c.args.company)) all) i.3, omega (arith, i.4))
+    let few = stations_few _ c.args.good.book.laid_out _ c.requires.1 in
+    let all : c.loop-number.number ≡ (network c.args.good.book.bytes.now).stations c.args.company = omega (arith, c.loop-number-test.false, c.stations-n.ensures) in
+    (put_same (ap (in_order (nth (network c.args.good.book.bytes.now) c.args.x c.args.company)) all) c.loop-number.invariant.0, omega (arith, c.loop-number.invariant.1))

@@ -1,17 +1,20 @@
 -- `price::price` meets its contract.
+use Rattle.std.proofs.Common.{sym}
 use Rattle.laws.proofs.Judging.{book_good}
 use Rattle.outline.specs.Price.{answer_to, price_of}
 use Rattle.outline.specs.Refusals.{◌and_then◌}
-use mathlib.Core.Path.{sym, ◌∙◌}
 use Rattle.price.proofs.price.Goals as goal
 
-pub price_on-requires : goal.price_on-requires
-price_on-requires c = (book_good _).0 (sym c.judge-found.ensures ∙ c.in-Good.is)
+pub invariant_of-book : goal.invariant_of-book
+invariant_of-book c = record { laid_out = ((book_good _).0 (sym c.in-Ok.ensures)).laid_out }
 
-pub returns-in-Good : goal.returns-in-Good
+pub invariant_of-price_on : goal.invariant_of-price_on
+invariant_of-price_on c = record { valid = (book_good _).0 (sym c.in-Ok.ensures) }
+
+pub returns-in-Ok : goal.returns-in-Ok
 unfolding price_of ◌and_then◌
-returns-in-Good c = rw (← c.judge-found.ensures, c.in-Good.is) c.price_on.ensures
+returns-in-Ok c = rw (← c.in-Ok.ensures) c.price_on.ensures
 
-pub returns-in-Refused : goal.returns-in-Refused
+pub returns-in-Err : goal.returns-in-Err
 unfolding price_of ◌and_then◌ answer_to
-returns-in-Refused c = rw (← c.judge-found.ensures, c.in-Refused.is) c.refused.ensures
+returns-in-Err c = rw (← c.in-Err.ensures) c.refused.ensures

@@ -5,15 +5,12 @@ use mathlib.Core.Path.{ap, ◌∙◌}
 use Rattle.price.proofs.price_on.Goals as goal
 
 pub answer-requires : goal.answer-requires
-answer-requires c = record { valid = c.requires; held = c.judge-read.ensures.held c.in-Good.is }
+answer-requires c = c.in-Ok.ensures.held
 
-pub returns-in-Good : goal.returns-in-Good
+pub returns-in-Ok : goal.returns-in-Ok
 unfolding answer_to
-returns-in-Good c =
-    let read = c.judge-read.ensures in
-    let good = c.in-Good.is in
-    rw (← read.judged, good) (c.answer.ensures ∙ ap (answer_of (network c.args.book.now)) (read.is good))
+returns-in-Ok c = rw c.in-Ok.ensures.good (c.answer.ensures ∙ ap (answer_of (network c.args.good.book.bytes.now)) c.in-Ok.ensures.is)
 
-pub returns-in-Refused : goal.returns-in-Refused
+pub returns-in-Err : goal.returns-in-Err
 unfolding answer_to
-returns-in-Refused c = rw (← c.judge-read.ensures.judged, c.in-Refused.is) c.refused.ensures
+returns-in-Err c = rw c.in-Err.ensures c.refused.ensures

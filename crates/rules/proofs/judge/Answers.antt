@@ -1,20 +1,19 @@
 -- `rules::judge` meets its contract.
-use borrow.Author.Rules.{rules}
-use native.Mathlib.Omega.{arith}
-use mathlib.Core.Path.{refl, sym, ◌∙◌}
-use Rattle.laws.proofs.Firsts.{first_more, first_stops, first_ends}
-use Rattle.outline.specs.Refusals.{first_below}
+use Rattle.std.proofs.Common.{sym, ◌∙◌, arith}
+use Rattle.laws.proofs.Firsts.{demand_holds, demand_fails, first_more, first_is, first_ends}
+use Rattle.outline.specs.Network.{network_of}
+use Rattle.outline.specs.Judging.{rule_check}
 use Rattle.rules.proofs.judge.Goals as goal
 
-pub loop-k-init : goal.loop-k-init
-unfolding first_below
-loop-k-init c = (search rules, search rules, refl)
-
-pub returns-in_default : goal.returns-in_default
-returns-in_default c = first_stops _ _ _ _ _ c.loop-k.invariant.2 (omega arith) c.judge_rule-found.ensures c.in_default.is
+pub returns-then-not-good_rule : goal.returns-then-not-good_rule
+unfolding rule_check network_of
+returns-then-not-good_rule g c =
+    rw c.from.ensures (sym (first_is _ _ _ _ c.loop-k.invariant (omega arith) (demand_fails _ _ _ (rw c.rule.ensures at (sym c.good_rule.ensures ∙ c.if-not-good_rule.true)))))
 
 pub loop-k-preserved : goal.loop-k-preserved
-loop-k-preserved c = (search rules, search rules, first_more _ _ c.loop-k.invariant.2 (sym c.judge_rule-found.ensures ∙ c.in-Good.is))
+unfolding rule_check network_of
+loop-k-preserved g c = first_more _ _ c.loop-k.invariant (demand_holds _ _ _ (rw c.rule.ensures at (sym c.good_rule.ensures ∙ c.if-not-good_rule.false)))
 
 pub returns : goal.returns
-returns c = first_ends _ _ _ (omega arith) c.loop-k.invariant.2
+unfolding network_of
+returns g c = first_ends _ _ _ (omega arith) c.loop-k.invariant

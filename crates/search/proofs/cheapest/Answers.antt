@@ -1,24 +1,23 @@
 -- `search::cheapest` meets its contract.
-use mathlib.Core.Path.{sym, ◌∙◌}
-use Rattle.outline.specs.Refusals.{◌and_then◌}
-use Rattle.outline.specs.Questions.{AnswerTo, Asked}
+use Rattle.std.proofs.Common.{sym}
+use Rattle.laws.proofs.Firsts.{then_good}
 use Rattle.laws.proofs.Judging.{book_good}
+use Rattle.outline.specs.Questions.{AnswerTo, Asked}
 use Rattle.search.proofs.cheapest.Goals as goal
 
-pub returns-in-Refused : goal.returns-in-Refused
-unfolding Asked AnswerTo ◌and_then◌
-returns-in-Refused c = rw (← c.judge-found.ensures, c.in-Refused.is) c.refused.ensures
+pub invariant_of-book : goal.invariant_of-book
+invariant_of-book c = record { laid_out = ((book_good _).0 (then_good _ _ (sym c.in-Ok.ensures)).0).laid_out }
 
-pub judge-asked-requires : goal.judge-asked-requires
-judge-asked-requires c = ((book_good _).0 (sym c.judge-found.ensures ∙ c.in_default.is)).laid_out
-
-pub returns-in-Refused-asked : goal.returns-in-Refused-asked
-unfolding Asked AnswerTo ◌and_then◌
-returns-in-Refused-asked c = rw (← c.judge-found.ensures, c.in_default.is, ← c.judge-asked.ensures, c.in-Refused-asked.is) c.refused-in-Refused-asked.ensures
+pub invariant_of-ask : goal.invariant_of-ask
+invariant_of-ask c = record { valid = (book_good _).0 (then_good _ _ (sym c.in-Ok.ensures)).0 }
 
 pub ask-requires : goal.ask-requires
-ask-requires c = ((book_good _).0 (sym c.judge-found.ensures ∙ c.in_default.is), sym c.judge-asked.ensures ∙ c.in_default-asked.is)
+ask-requires c = (then_good _ _ (sym c.in-Ok.ensures)).1
 
-pub returns : goal.returns
-unfolding Asked AnswerTo ◌and_then◌
-returns c = rw (← c.judge-found.ensures, c.in_default.is, ← c.judge-asked.ensures, c.in_default-asked.is) c.ask.ensures
+pub returns-in-Ok : goal.returns-in-Ok
+unfolding Asked AnswerTo
+returns-in-Ok c = rw (← c.in-Ok.ensures) c.ask.ensures
+
+pub returns-in-Err : goal.returns-in-Err
+unfolding Asked AnswerTo
+returns-in-Err c = rw (← c.in-Err.ensures) c.refused.ensures

@@ -6,5 +6,5 @@ use Rattle.price.proofs.answers.answer.Goals as goal
 
 pub returns : goal.returns
 returns c =
-    answer_is _ _ _ _ _ _ _ _ _ c.fare.ensures (sym (rides_length c.args.route c.requires.held.sized)) c.best-runs.ensures.is
+    answer_is _ _ _ _ _ _ _ _ _ c.fare.ensures (sym (rides_length c.args.route c.requires.sized)) c.best-runs.ensures.is
     c.place.ensures c.place-2.ensures c.place-3.ensures c.place-4.ensures

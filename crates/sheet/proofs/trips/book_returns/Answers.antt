@@ -14,24 +14,24 @@ use Rattle.sheet.proofs.trips.book_returns.Goals as goal
 
 pub slice_bounds-book_written-end : goal.slice_bounds-book_written-end
 unfolding read_answer read_leaves
-slice_bounds-book_written-end c = (told_wrote (book_check c.args.book.now) (sheet_of (fares_of c.args.book.now)) c.args.sheet.now _ _ _ (c.read-got.ensures.value, c.read-got.ensures.sheet_after) c.in-Wrote.is).fits
+slice_bounds-book_written-end c = (told_wrote (book_check c.args.book.now) (sheet_of (fares_of c.args.book.now)) c.args.sheet.now _ _ _ (c.read-got.ensures.value, c.read-got.ensures.sheet_after) c.in-Ok.is).fits
 
-pub slice_bounds-book_written-end-in-Wrote : goal.slice_bounds-book_written-end-in-Wrote
+pub slice_bounds-book_written-end-in-Ok : goal.slice_bounds-book_written-end-in-Ok
 unfolding read_answer read_leaves
-slice_bounds-book_written-end-in-Wrote c = sym (length-take-le _ _ (told_wrote (book_check c.args.book.now) (sheet_of (fares_of c.args.book.now)) c.args.sheet.now _ _ _ (c.read-got.ensures.value, c.read-got.ensures.sheet_after) c.in-Wrote.is).fits)
+slice_bounds-book_written-end-in-Ok c = sym (length-take-le _ _ (told_wrote (book_check c.args.book.now) (sheet_of (fares_of c.args.book.now)) c.args.sheet.now _ _ _ (c.read-got.ensures.value, c.read-got.ensures.sheet_after) c.in-Ok.is).fits)
 
 pub book_written-requires : goal.book_written-requires
 unfolding read_answer read_leaves
-book_written-requires c = let t = told_wrote (book_check c.args.book.now) (sheet_of (fares_of c.args.book.now)) c.args.sheet.now _ _ _ (c.read-got.ensures.value, c.read-got.ensures.sheet_after) c.in-Wrote.is in ((book_good _).0 t.good, t.front)
+book_written-requires c = let t = told_wrote (book_check c.args.book.now) (sheet_of (fares_of c.args.book.now)) c.args.sheet.now _ _ _ (c.read-got.ensures.value, c.read-got.ensures.sheet_after) c.in-Ok.is in ((book_good _).0 t.good, t.front)
 
-pub returns-in-NotWritten : goal.returns-in-NotWritten
+pub returns-in-Err : goal.returns-in-Err
 unfolding read_answer read_leaves book_returns both choose
-returns-in-NotWritten c =
-    let t = told_not (book_check c.args.book.now) (sheet_of (fares_of c.args.book.now)) c.args.sheet.now _ _ _ (c.read-got.ensures.value, c.read-got.ensures.sheet_after) c.in-NotWritten.is in
+returns-in-Err c =
+    let t = told_not (book_check c.args.book.now) (sheet_of (fares_of c.args.book.now)) c.args.sheet.now _ _ _ (c.read-got.ensures.value, c.read-got.ensures.sheet_after) c.in-Err.is in
     record { value = rw t.0 refl; sheet_after = c.read-got.ensures.sheet_after; again_after = refl }
 
-pub returns-in-Wrote : goal.returns-in-Wrote
+pub returns-in-Ok : goal.returns-in-Ok
 unfolding read_answer read_leaves book_returns both where_good
-returns-in-Wrote c =
-    let t = told_wrote (book_check c.args.book.now) (sheet_of (fares_of c.args.book.now)) c.args.sheet.now _ _ _ (c.read-got.ensures.value, c.read-got.ensures.sheet_after) c.in-Wrote.is in
+returns-in-Ok c =
+    let t = told_wrote (book_check c.args.book.now) (sheet_of (fares_of c.args.book.now)) c.args.sheet.now _ _ _ (c.read-got.ensures.value, c.read-got.ensures.sheet_after) c.in-Ok.is in
     record { value = rw (t.good, le-leb _ _ t.room) c.book_written.ensures.value; sheet_after = c.read-got.ensures.sheet_after; again_after = rw c.book_written.ensures.value c.book_written.ensures.again_after }

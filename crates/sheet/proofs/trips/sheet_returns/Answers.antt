@@ -15,24 +15,24 @@ use Rattle.sheet.proofs.trips.sheet_returns.Goals as goal
 
 pub slice_bounds-sheet_read-end : goal.slice_bounds-sheet_read-end
 unfolding write_answer write_leaves
-slice_bounds-sheet_read-end c = (told_wrote (sheet_check c.args.sheet.now) (book_of (fares_in c.args.sheet.now)) c.args.book.now _ _ _ (c.write-wrote.ensures.value, c.write-wrote.ensures.book_after) c.in-Wrote.is).fits
+slice_bounds-sheet_read-end c = (told_wrote (sheet_check c.args.sheet.now) (book_of (fares_in c.args.sheet.now)) c.args.book.now _ _ _ (c.write-wrote.ensures.value, c.write-wrote.ensures.book_after) c.in-Ok.is).fits
 
-pub slice_bounds-sheet_read-end-in-Wrote : goal.slice_bounds-sheet_read-end-in-Wrote
+pub slice_bounds-sheet_read-end-in-Ok : goal.slice_bounds-sheet_read-end-in-Ok
 unfolding write_answer write_leaves
-slice_bounds-sheet_read-end-in-Wrote c = sym (length-take-le _ _ (told_wrote (sheet_check c.args.sheet.now) (book_of (fares_in c.args.sheet.now)) c.args.book.now _ _ _ (c.write-wrote.ensures.value, c.write-wrote.ensures.book_after) c.in-Wrote.is).fits)
+slice_bounds-sheet_read-end-in-Ok c = sym (length-take-le _ _ (told_wrote (sheet_check c.args.sheet.now) (book_of (fares_in c.args.sheet.now)) c.args.book.now _ _ _ (c.write-wrote.ensures.value, c.write-wrote.ensures.book_after) c.in-Ok.is).fits)
 
 pub sheet_read-requires : goal.sheet_read-requires
 unfolding write_answer write_leaves
-sheet_read-requires c = let t = told_wrote (sheet_check c.args.sheet.now) (book_of (fares_in c.args.sheet.now)) c.args.book.now _ _ _ (c.write-wrote.ensures.value, c.write-wrote.ensures.book_after) c.in-Wrote.is in ((sheet_good _).0 t.good, t.front)
+sheet_read-requires c = let t = told_wrote (sheet_check c.args.sheet.now) (book_of (fares_in c.args.sheet.now)) c.args.book.now _ _ _ (c.write-wrote.ensures.value, c.write-wrote.ensures.book_after) c.in-Ok.is in ((sheet_good _).0 t.good, t.front)
 
-pub returns-in-NotWritten : goal.returns-in-NotWritten
+pub returns-in-Err : goal.returns-in-Err
 unfolding write_answer write_leaves sheet_returns both choose
-returns-in-NotWritten c =
-    let t = told_not (sheet_check c.args.sheet.now) (book_of (fares_in c.args.sheet.now)) c.args.book.now _ _ _ (c.write-wrote.ensures.value, c.write-wrote.ensures.book_after) c.in-NotWritten.is in
+returns-in-Err c =
+    let t = told_not (sheet_check c.args.sheet.now) (book_of (fares_in c.args.sheet.now)) c.args.book.now _ _ _ (c.write-wrote.ensures.value, c.write-wrote.ensures.book_after) c.in-Err.is in
     record { value = rw t.0 refl; book_after = c.write-wrote.ensures.book_after; again_after = refl }
 
-pub returns-in-Wrote : goal.returns-in-Wrote
+pub returns-in-Ok : goal.returns-in-Ok
 unfolding write_answer write_leaves sheet_returns both where_good
-returns-in-Wrote c =
-    let t = told_wrote (sheet_check c.args.sheet.now) (book_of (fares_in c.args.sheet.now)) c.args.book.now _ _ _ (c.write-wrote.ensures.value, c.write-wrote.ensures.book_after) c.in-Wrote.is in
+returns-in-Ok c =
+    let t = told_wrote (sheet_check c.args.sheet.now) (book_of (fares_in c.args.sheet.now)) c.args.book.now _ _ _ (c.write-wrote.ensures.value, c.write-wrote.ensures.book_after) c.in-Ok.is in
     record { value = rw (t.good, le-leb _ _ t.room) c.sheet_read.ensures.value; book_after = c.write-wrote.ensures.book_after; again_after = rw c.sheet_read.ensures.value c.sheet_read.ensures.again_after }

@@ -27,7 +27,7 @@ unfolding answer_numbers
 returns c =
     let a = c.args.a in
     let d = c.args.answer.now in
-    let first = two_stores _ _ d (omega arith) ∙ ap (λ (x : ℕ). filled (a.fare ∷ x ∷ []) d) c.number.ensures.0 in
+    let first = two_stores _ _ d (omega arith) ∙ ap (λ (x : ℕ). filled (a.fare ∷ x ∷ []) d) c.from.ensures in
     filled_lent (a.fare ∷ a.rides ∷ []) (places_numbers a.places) d _ _ 2 first refl (omega (arith, places_length a.places)) c.put_places.ensures
 
 pub shape_of-answer : goal.shape_of-answer

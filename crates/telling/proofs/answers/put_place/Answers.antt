@@ -13,4 +13,4 @@ bounds-answer-2 c = simp length-set (omega arith)
 
 pub returns : goal.returns
 unfolding place_numbers
-returns c = rw (c.number.ensures.0, c.number-2.ensures.0, c.number-3.ensures.0, c.paid_number.ensures) (four_stores _ _ _ _ _ c.requires)
+returns c = rw (c.from.ensures, c.from-2.ensures, c.from-3.ensures, c.paid_number.ensures) (four_stores _ _ _ _ _ c.requires)

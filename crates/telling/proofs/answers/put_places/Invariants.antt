@@ -1,10 +1,6 @@
 -- `telling::answers::put_places` meets its contract.
-use Prim.Native.Nat.{◌-◌}
 use Rattle.telling.proofs.Putting.{Put}
 use Rattle.telling.proofs.answers.put_places.Given as goal
 
 abbrev pub invariant-loop-i : goal.invariant-loop-i
-invariant-loop-i l = Put l.a.places l.initial.answer l.answer l.i
-
-abbrev pub decreases-loop-i : goal.decreases-loop-i
-decreases-loop-i l = 4 - l.i
+invariant-loop-i l = Put l.fn.a.places l.initial.answer l.answer l.i

@@ -1,7 +1,0 @@
--- `layout::rule_rides` meets its contract.
-use Rattle.outline.specs.Book.{rule_of}
-use Rattle.layout.proofs.rule_rides.Goals as goal
-
-pub returns : goal.returns
-unfolding rule_of
-returns c = rw c.wide.ensures.0

@@ -1,7 +1,0 @@
--- `lookup::rules` meets its contract.
-use mathlib.Core.Path.{sym, ◌∙◌}
-use Rattle.laws.proofs.Reading.{network_rules}
-use Rattle.lookup.proofs.rules.Goals as goal
-
-pub returns : goal.returns
-returns c = c.rules.ensures ∙ sym (network_rules _)

@@ -1,7 +1,0 @@
--- `sheet_layout::rule_companies` meets its contract.
-use Rattle.outline.specs.Sheet.{rule_in}
-use Rattle.sheet_layout.proofs.rule_companies.Goals as goal
-
-pub returns : goal.returns
-unfolding rule_in
-returns c = c.numbers.ensures
