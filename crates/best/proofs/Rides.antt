@@ -15,6 +15,11 @@ use Rattle.outline.specs.Lexical.{LexLe}
 use Rattle.outline.specs.Routes.{bytes_of}
 use Rattle.laws.proofs.Tests.{true_not_false}
 use Rattle.laws.proofs.Lexical.{lex_same}
+use native.Mathlib.Omega.{arith}
+use Rattle.routes.specs.declared.Route.{Route}
+use Rattle.routes.specs.Held.{rides_of, Sized}
+use Rattle.routes.proofs.Rides.{rides_length}
+use Rattle.best.specs.Kept.{NoLonger}
 
 -- ---- the order of two rides, as it is derived: by company, then boarding, then alighting station
 
@@ -92,3 +97,8 @@ module _ (C : Leg → Leg → Option Ordering) (same : (x y : Leg) → C x y ≡
 
   pub greater : r ≡ false → LexLe (bytes_of m) (bytes_of l)
   greater e = past (slice_cmp ride_cmp l m) _ _ (rides_ordered l m) (sym by_order ∙ e)
+
+-- ---- the number of rides
+
+pub fewer_rides : (x y : Route) → Sized x → Sized y → x.count < y.count → NoLonger (rides_of x) (rides_of y)
+fewer_rides x y s t l = let a = rides_length x s in let b = rides_length y t in inl (omega arith)

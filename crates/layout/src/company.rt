@@ -19,7 +19,7 @@ impl<'a> Body<'a> {
     pub fn stations(self) -> u8
         ensures { result ≡ station_count self.entry.bytes.now }
     {
-        self.bytes[0]
+        crate::stations(self.bytes)
     }
 
     // Entry i, counted row by row.

@@ -123,6 +123,14 @@ pub fn entry_place(n: u8, i: u8, j: u8) -> usize
     1 + 2 * (usize::from(i) * usize::from(n) + usize::from(j))
 }
 
+// How many stations a company has, from its body.
+pub fn stations(body: &[u8]) -> u8
+    requires { 0 < length body.now }
+    ensures { result ≡ station_count body.now }
+{
+    body[0]
+}
+
 // How many entries the table of n stations has.
 pub fn entries(n: u8) -> usize
     ensures { result ≡ n * n }

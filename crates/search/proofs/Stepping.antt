@@ -20,7 +20,6 @@ use Rattle.outline.specs.declared.Question.{Question}
 use Rattle.outline.specs.Numbers.{most_rides}
 use Rattle.outline.specs.Tests.{both, either, choose, Within}
 use Rattle.outline.specs.Book.{network}
-use Rattle.outline.specs.Valid.{ValidBook}
 use Rattle.outline.specs.Questions.{Joins, Cheapest}
 use Rattle.laws.specs.Rides.{AllGood}
 use Rattle.laws.proofs.Tests.{true_not_false, both_holds, either_first, either_second, either_false}

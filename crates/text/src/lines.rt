@@ -1,5 +1,5 @@
 // Lines of text, gathered in a buffer.
-ghost use Rattle.std.specs.Prelude.{◌≡◌, ◌≤◌, OnErr, OnOk, take};
+ghost use Rattle.std.specs.Prelude.{◌≡◌, ◌≤◌, IfOk, OnErr, OnOk, length, take};
 ghost use Rattle.std.specs.Io.KnownBytes.{Appends};
 ghost use Rattle.text.specs.Lines.{Wrote, WroteLine, next_line};
 
@@ -9,6 +9,43 @@ use std::io::Write;
 
 // More than the longest line has.
 const ROOM: usize = 128;
+
+// Writes the first n bytes of a buffer. An error is the writer's, and says nothing of what it took before.
+pub fn write<W: Write>(to: &mut W, out: &[u8], n: usize) -> io::Result<()>
+    ensures ok { n ≤ length out.now → OnOk result (Appends (W.contents to.old) (W.contents to.new) (take n out.now)) }
+    ensures err { OnErr result (n ≤ length out.now) }
+{
+    if n <= out.len() {
+        return to.write_all(&out[..n]);
+    }
+    Ok(())
+}
+
+// Where the next line goes. Where little room is left after the first n bytes of a buffer, these are written, and it goes to the start.
+#[tactic(auto, unfolding(outline::specs::Tests::both, outline::specs::Tests::choose))]
+pub fn room<W: Write>(to: &mut W, out: &[u8], n: usize) -> io::Result<usize>
+    ensures ok { IfOk result (λ at. at ≡ next_line n (length out.now)) }
+    ensures err { OnErr result (next_line n (length out.now) ≡ 0) }
+{
+    if out.len() <= n || out.len() - n < ROOM {
+        write(to, out, n)?;
+        return Ok(0);
+    }
+    Ok(n)
+}
+
+// Puts text at `at`, as far as there is room for it, and answers where it ends.
+pub fn put_text(out: &mut [u8], at: usize, text: &[u8]) -> usize
+    ensures text { Wrote out.old at text.now out.new result }
+    ensures inside { at ≤ length out.old → result ≤ length out.old }
+{
+    if out.len() <= at {
+        return at;
+    }
+    let n = text.len().min(out.len() - at);
+    out[at..at + n].copy_from_slice(&text[..n]);
+    at + n
+}
 
 // What was gathered, in the first `end` bytes.
 #[derive(Drop)]
@@ -35,7 +72,7 @@ impl<const N: usize> Lines<N> {
         ensures err { OnErr result (self.new.end ≡ self.old.end) }
         ensures same { self.new.bytes ≡ self.old.bytes }
     {
-        to.write_all(&self.bytes[..self.end])?;
+        write(to, &self.bytes, self.end)?;
         self.end = 0;
         Ok(())
     }
@@ -48,9 +85,7 @@ impl<const N: usize> Lines<N> {
         ensures full { OnErr result (next_line self.old.end N ≡ 0) }
         ensures same { self.new.bytes ≡ self.old.bytes }
     {
-        if N - self.end < ROOM {
-            self.write(to)?;
-        }
+        self.end = room(to, &self.bytes, self.end)?;
         Ok(())
     }
 
@@ -58,10 +93,7 @@ impl<const N: usize> Lines<N> {
     pub fn put_text(&mut self, text: &[u8])
         ensures { Wrote self.old.bytes self.old.end text.now self.new.bytes self.new.end }
     {
-        let n = text.len().min(N - self.end);
-        let all = &mut self.bytes[..];
-        all[self.end..self.end + n].copy_from_slice(&text[..n]);
-        self.end += n;
+        self.end = put_text(&mut self.bytes, self.end, text);
     }
 
     // Puts a line.

@@ -1,5 +1,5 @@
 -- `listing::put_pair` meets its contract.
-use mathlib.Core.Path.{sym, ap, ◌∙◌}
+use mathlib.Core.Path.{ap}
 use native.Mathlib.Omega.{arith}
 use Rattle.std.proofs.Common.{◌≡◌, true, false, rules}
 use Rattle.outline.specs.Network.{same_station}

@@ -10,7 +10,7 @@ use Rattle.outline.specs.Lending.{filled}
 use Rattle.outline.specs.Tests.{in_order}
 use Rattle.filling.proofs.InOrder.{order_none, order_more_length, order_turn}
 use Rattle.outline.specs.Book.{station_count, table_of, fares_of}
-use Rattle.filling.proofs.Whole.{tables_of, stations_of_network}
+use Rattle.filling.proofs.Whole.{tables_of}
 use Rattle.laws.proofs.Reading.{network_companies, company_in}
 use Rattle.reading.proofs.fill_tables.Goals as goal
 use Rattle.reading.proofs.fill_tables.Goals.{In-loop-c}
