@@ -6,7 +6,7 @@ ghost use Rattle.outline.specs.Fares.{link_at};
 ghost use Rattle.outline.specs.Network.{network_of};
 ghost use Rattle.outline.specs.Refusals.{first_below};
 ghost use Rattle.outline.specs.Sheet.{link_in};
-ghost use Rattle.outline.specs.Judging.{good_link, same_link, repeated, link_check};
+ghost use Rattle.outline.specs.Judging.{good_link, repeated, link_check};
 
 use outline::Refusal;
 use source::{Company, Source};
@@ -24,20 +24,13 @@ fn good_link<S: Source>(source: S, link: [u16; 4]) -> bool
         && link[3] < source.company(other).stations()
 }
 
-fn same_link(x: [u16; 4], y: [u16; 4]) -> bool
-    ensures { result ≡ same_link (link_in x 0) (link_in y 0) }
-{
-    x == y
-}
-
 // Whether a link before link k is the same.
 fn is_repeated<S: Source>(source: S, k: u16) -> bool
     requires { k < length (S.fares source).links }
     ensures { result ≡ repeated (network_of (S.fares source)) k }
 {
-    let link = source.link(k);
     for j in 0..k {
-        if same_link(source.link(j), link) {
+        if source.same_links(j, k) {
             return true;
         }
     }

@@ -103,6 +103,13 @@ impl<'a> Source for Book<'a> {
         ]
     }
 
+    #[tactic(auto, unfolding(outline::specs::Judging::same_link, outline::specs::Network::same_station, outline::specs::Tests::both, outline::specs::Book::network, outline::specs::Network::network_of))]
+    fn same_links(self, j: u16, k: u16) -> bool {
+        let x = Book::link(self, j as u8);
+        let y = Book::link(self, k as u8);
+        x.one == y.one && x.other == y.other
+    }
+
     fn rules(self) -> u16 {
         u16::from(layout::rules(self.bytes))
     }

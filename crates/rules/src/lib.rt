@@ -1,7 +1,7 @@
 // The rules of a book or a sheet: the first bad one.
 #![tactic(auto)]
 
-ghost use Rattle.std.specs.Prelude.{◌≡◌, ◌*◌, ◌≤◌, ◌<◌, length, get_or, ltb};
+ghost use Rattle.std.specs.Prelude.{◌≡◌, ℕ, ◌*◌, ◌≤◌, ◌<◌, true, false, length, get_or, ltb};
 ghost use Rattle.outline.specs.Tests.{all_below};
 ghost use Rattle.outline.specs.Fares.{in_map};
 ghost use Rattle.outline.specs.Network.{network_of};
@@ -61,7 +61,21 @@ fn are_bytes(map: &[u16]) -> bool
     map.iter().all(|x| *x < 256)
 }
 
-// Whether a map is of bytes and holds nothing beyond its first items.
+// Whether a map holds an item from `start` on and before `end`.
+fn holds_some(map: &[u16], start: usize, end: usize) -> bool
+    requires { end ≤ 8 * length map.now }
+    ensures some { result ≡ true → (i : ℕ) × (start ≤ i) × (i < end) × (in_map map.now i ≡ true) }
+    ensures none { result ≡ false → (i : ℕ) → start ≤ i → i < end → in_map map.now i ≡ false }
+{
+    for i in start..end {
+        if in_map(map, i) {
+            return true;
+        }
+    }
+    false
+}
+
+// Whether a map is of bytes and holds nothing beyond its first items. A number of 0 holds nothing, so its items aren't looked at.
 fn good_map(map: &[u16], items: u16) -> bool
     requires { length map.now ≤ 16 }
     ensures { result ≡ good_map map.now items }
@@ -69,8 +83,9 @@ fn good_map(map: &[u16], items: u16) -> bool
     if !are_bytes(map) {
         return false;
     }
-    for i in usize::from(items)..8 * map.len() {
-        if in_map(map, i) {
+    let items = usize::from(items);
+    for k in items / 8..map.len() {
+        if map[k] != 0 && holds_some(map, items.max(8 * k), 8 * k + 8) {
             return false;
         }
     }

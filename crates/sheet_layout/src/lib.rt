@@ -1,4 +1,4 @@
-// The layout of a sheet: where its counts, tables, links and rules stand. No other file but numbers/src/lib.rt knows a place or a size in it.
+// The layout of a sheet: where its counts, tables, links and rules stand. Beside it only `numbers` and `bodies` know a place or a size in it.
 #![tactic(auto)]
 
 pub mod rule;

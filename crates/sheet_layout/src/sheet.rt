@@ -67,6 +67,10 @@ impl<'a> Source for Sheet<'a> {
         ]
     }
 
+    fn same_links(self, j: u16, k: u16) -> bool {
+        self.link(j) == self.link(k)
+    }
+
     fn rules(self) -> u16 {
         crate::rules(self.numbers)
     }

@@ -5,6 +5,7 @@ pub mod limits;
 
 ghost use Rattle.std.specs.Prelude.{◌≡◌, ℕ, ◌<◌, length};
 ghost use Rattle.outline.specs.Fares.{Table, Fares, fare_at, table_at, link_at, rule_at};
+ghost use Rattle.outline.specs.Judging.{same_link};
 ghost use Rattle.outline.specs.Sheet.{link_in};
 
 use outline::Rule;
@@ -50,6 +51,11 @@ pub trait Source: Copy {
     fn link(self, k: u16) -> [u16; 4]
         requires { k < length (fares self).links }
         ensures { link_in result 0 ≡ link_at (fares self) k };
+
+    // Whether links j and k are the same. Each source compares them as they stand in it: a book's are four bytes.
+    fn same_links(self, j: u16, k: u16) -> bool
+        requires { (j < length (fares self).links) × (k < length (fares self).links) }
+        ensures { result ≡ same_link (link_at (fares self) j) (link_at (fares self) k) };
 
     fn rules(self) -> u16
         ensures { result ≡ length (fares self).rules };

@@ -10,12 +10,12 @@ pub loop-j-init : goal.loop-j-init
 unfolding some_below
 loop-j-init g c = refl
 
-pub returns-then-same_link : goal.returns-then-same_link
+pub returns-then-same_links : goal.returns-then-same_links
 unfolding repeated network_of
-returns-then-same_link g c = sym (some_stops _ _ c.loop-j.j (omega arith) (rw (c.link.ensures, c.link-link.ensures) at (sym c.same_link.ensures ∙ c.if-same_link.true)))
+returns-then-same_links g c = sym (some_stops _ _ c.loop-j.j (omega arith) (sym c.same_links.ensures ∙ c.if-same_links.true))
 
 pub loop-j-preserved : goal.loop-j-preserved
-loop-j-preserved g c = some_more _ _ c.loop-j.invariant (rw (c.link.ensures, c.link-link.ensures) at (sym c.same_link.ensures ∙ c.if-same_link.false))
+loop-j-preserved g c = some_more _ _ c.loop-j.invariant (sym c.same_links.ensures ∙ c.if-same_links.false)
 
 pub returns : goal.returns
 unfolding repeated network_of
