@@ -15,9 +15,10 @@ impl fmt::Display for Verdict {
 
     fn fmt<W: fmt::Write>(&self, f: &mut fmt::Formatter<W>) -> fmt::Result {
         match self.0 {
-            Ok(()) => writeln!(f, "ok"),
-            Err(x) => writeln!(f, "{}", Refused(x)),
+            Ok(()) => f.write_str("ok")?,
+            Err(x) => Refused(x).fmt(f)?,
         }
+        f.write_str("\n")
     }
 }
 
@@ -31,7 +32,7 @@ impl fmt::Display for Outcome {
     fn fmt<W: fmt::Write>(&self, f: &mut fmt::Formatter<W>) -> fmt::Result {
         match self.0 {
             Ok(n) => write!(f, "wrote {n}"),
-            Err(x) => write!(f, "{}", Refused(x)),
+            Err(x) => Refused(x).fmt(f),
         }
     }
 }
@@ -54,7 +55,7 @@ impl fmt::Display for Done {
     ghost output = { λ x. Some (done_text x.written x.sum x.back) };
 
     fn fmt<W: fmt::Write>(&self, f: &mut fmt::Formatter<W>) -> fmt::Result {
-        let outcome = Outcome(self.written);
-        writeln!(f, "{outcome} {} {}", self.sum, word(self.back))
+        Outcome(self.written).fmt(f)?;
+        writeln!(f, " {} {}", self.sum, word(self.back))
     }
 }

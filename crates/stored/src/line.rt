@@ -32,7 +32,7 @@ impl Kind {
     }
 }
 
-#[derive(Drop)]
+#[derive(Clone, Copy)]
 pub struct Line {
     // A line without a letter is listed.
     pub kind: Kind,

@@ -13,6 +13,8 @@ pub struct Refused(pub Refusal);
 impl fmt::Display for Refused {
     ghost output = { λ x. Some (refused_text x.0) };
 
+    // Inlined, since a call costs as much as the text.
+    #[inline(always)]
     fn fmt<W: fmt::Write>(&self, f: &mut fmt::Formatter<W>) -> fmt::Result {
         write!(
             f,
@@ -53,7 +55,7 @@ impl fmt::Display for Rides<'_> {
 
     fn fmt<W: fmt::Write>(&self, f: &mut fmt::Formatter<W>) -> fmt::Result {
         for ride in self.0 {
-            write!(f, "{}", Ridden(*ride))?;
+            Ridden(*ride).fmt(f)?;
         }
         Ok(())
     }
@@ -78,10 +80,11 @@ impl fmt::Display for Told {
         let answer = &self.0;
         match answer.judged {
             Ok(()) => {
-                let rides = Rides(used(answer));
-                writeln!(f, "fare {} rides {}{rides}", answer.fare, answer.rides)
+                write!(f, "fare {} rides {}", answer.fare, answer.rides)?;
+                Rides(used(answer)).fmt(f)?;
             }
-            Err(x) => writeln!(f, "{}", Refused(x)),
+            Err(x) => Refused(x).fmt(f)?,
         }
+        f.write_str("\n")
     }
 }

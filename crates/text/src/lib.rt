@@ -5,3 +5,4 @@ pub mod answers;
 pub mod blocks;
 pub mod digits;
 pub mod lines;
+mod scratch;

@@ -3,12 +3,10 @@ ghost use Rattle.std.specs.Prelude.{◌≡◌, ◌≤◌, IfOk, OnErr, OnOk, len
 ghost use Rattle.std.specs.Io.KnownBytes.{Appends};
 ghost use Rattle.text.specs.Lines.{Wrote, WroteLine, next_line};
 
+use crate::scratch::{ROOM, Scratch};
 use std::fmt::{Display, InlineText};
-use std::io;
 use std::io::Write;
-
-// More than the longest line has.
-const ROOM: usize = 128;
+use std::{fmt, io};
 
 // Writes the first n bytes of a buffer. An error is the writer's, and says nothing of what it took before.
 pub fn write<W: Write>(to: &mut W, out: &[u8], n: usize) -> io::Result<()>
@@ -96,6 +94,26 @@ impl<const N: usize> Lines<N> {
         self.end = put_text(&mut self.bytes, self.end, text);
     }
 
+    // Puts a line where `end` is. It stands in room of its own until all of it is there, since an error would leave a part of it.
+    fn put_line<D: Display + Drop>(&mut self, line: D)
+        ensures { WroteLine self.old.bytes self.old.end (D.output line) self.new.bytes self.new.end }
+    {
+        let mut scratch = Scratch::new();
+        match fmt::Write::write(&mut scratch, &line) {
+            Ok(()) => self.put_text(scratch.text()),
+            Err(_) => self.put_cut(line),
+        }
+    }
+
+    // Puts what fits of a line, and dots, where it is too long or its `fmt` fails. The line that fits doesn't pay for the room that this takes.
+    #[cold]
+    #[inline(never)]
+    fn put_cut<D: Display + Drop>(&mut self, line: D)
+        ensures { WroteLine self.old.bytes self.old.end (D.output line) self.new.bytes self.new.end }
+    {
+        self.put_text(InlineText::<ROOM>::of(line).as_str().as_bytes());
+    }
+
     // Puts a line.
     pub fn put<W: Write, D: Display + Drop>(&mut self, to: &mut W, line: D) -> io::Result<()>
         ensures text { OnOk result (WroteLine self.old.bytes (next_line self.old.end N) (D.output line) self.new.bytes self.new.end) }
@@ -104,7 +122,7 @@ impl<const N: usize> Lines<N> {
         ensures full { OnErr result (next_line self.old.end N ≡ 0) }
     {
         self.make_room(to)?;
-        self.put_text(InlineText::<ROOM>::of(line).as_str().as_bytes());
+        self.put_line(line);
         Ok(())
     }
 }
