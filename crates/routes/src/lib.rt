@@ -12,6 +12,9 @@ ghost use Rattle.routes.specs.Held.{rides_of, Sized, Held, pushed, sold_for, Rea
 use lookup::book::Book;
 use outline::{Leg, Station};
 
+// How many rides a route has at most.
+pub const MOST_RIDES: usize = 4;
+
 // Up to four rides, what each costs, and the link by which each but the first is reached. Memory is fixed, so there are four places and a count.
 // The three lists stand apart so that rides are compared (`best::order`) and matched with a rule's companies as one slice of legs.
 // That the count is at most four (`Sized`) stands in contracts: `pushed` makes a route of any, and a ghost field would ask it for a proof.
