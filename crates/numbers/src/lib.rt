@@ -1,4 +1,4 @@
-// The parts of a sheet, each written to the front of a part of the lent list. With sheet_layout this is all that knows a sheet's places.
+// The parts of a sheet, each written to the front of a part of the lent list. With sheet_layout and bodies this is all that knows a sheet's places.
 #![tactic(auto)]
 
 ghost use Rattle.std.specs.Prelude.{◌≡◌, ◌∷◌, [], ◌*◌, ◌≤◌, ◌<◌, length};
