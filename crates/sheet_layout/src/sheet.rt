@@ -68,7 +68,9 @@ impl<'a> Source for Sheet<'a> {
     }
 
     fn same_links(self, j: u16, k: u16) -> bool {
-        self.link(j) == self.link(k)
+        let x = self.link(j);
+        let y = self.link(k);
+        x == y
     }
 
     fn rules(self) -> u16 {
